@@ -1,0 +1,4 @@
+pub mod Width
+pub mod Members
+pub mod Numbers
+pub mod Counting

@@ -1,0 +1,2 @@
+// Sets of parts, and the one place that knows how many parts there are.
+pub mod parts;
