@@ -1,5 +1,5 @@
 -- What stands at a place of a list. Assumes nothing.
-use mathlib.Core.Path.{_≡_, refl, ap, _∙_}
+use mathlib.Core.Path.{_≡_, refl, sym, ap, _∙_}
 use mathlib.Core.Logic.{_⊎_, inl, inr}
 use mathlib.Core.List.{List, [], _∷_, _++_}
 use Prim.Native.Nat.{ℕ, zero, suc, _+_, _-_, _<_, _≤_}
@@ -42,6 +42,17 @@ module _ {X : Type 0} where
     | inl a ↦ inl a
     | inr b ↦ let z : suc i - suc (length xs) ≡ i - length xs = omega arith in inr (omega (arith, b .0), ap (nth ys) z ∙ b .1)
   ]
+
+  -- one item more
+  pub nth-last : (xs : List X) (x : X) → nth (xs ++ x ∷ []) (length xs) ≡ Some x
+  nth-last xs x = let e : length xs ≡ length xs + 0 = omega arith in ap (nth (xs ++ x ∷ [])) e ∙ nth-back xs (x ∷ []) 0
+
+  pub nth-push : (xs : List X) (x y : X) (i : ℕ) → nth (xs ++ x ∷ []) i ≡ Some y → (nth xs i ≡ Some y) ⊎ ((i ≡ length xs) × (x ≡ y))
+  nth-push xs x y i e = elim (nth-either xs (x ∷ []) i y e) [ inl a ↦ inl a | inr b ↦ inr (only (i - length xs) refl (b .0) (b .1)) ]
+    where
+      only : (j : ℕ) → i - length xs ≡ j → length xs ≤ i → nth (x ∷ []) (i - length xs) ≡ Some y → (i ≡ length xs) × (x ≡ y)
+      only zero s l h = let at : nth (x ∷ []) 0 ≡ Some y = ap (nth (x ∷ [])) (sym s) ∙ h in (omega arith, cc)
+      only (suc j) s l h = let at : nth (x ∷ []) (suc j) ≡ Some y = ap (nth (x ∷ [])) (sym s) ∙ h in absurd (nothing y at)
 
   pub take-nth : (xs : List X) (i : ℕ) (x : X) → nth xs i ≡ Some x → take (i + 1) xs ≡ take i xs ++ x ∷ []
   take-nth xs i x e =

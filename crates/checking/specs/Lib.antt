@@ -5,3 +5,7 @@ pub mod Refusals
 pub mod Rules
 pub mod Meanings
 pub mod Books
+pub mod Validity
+pub mod Rounds
+pub mod Justification
+pub mod Derivations

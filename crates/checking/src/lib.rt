@@ -4,6 +4,6 @@ mod held;
 pub mod refusal;
 pub mod rule;
 pub mod book;
-// pub mod validity;
-// pub mod justification;
+pub mod validity;
+pub mod justification;
 // pub mod checker;

@@ -9,7 +9,7 @@ use Rattle.sets.specs.declared.parts.Parts.{Parts}
 use Rattle.sets.specs.Width.{how-many}
 use Rattle.sets.specs.Members.{Has, Within, Empty, Holds}
 use Rattle.sets.specs.Counting.{size, Counting}
-use Rattle.sets.proofs.Digits.{digit, digit-suc, digit-zero, some-digit, ones-zero, ones-more, ones-within, ones-one, one-ones}
+use Rattle.sets.proofs.Digits.{digit, digit-suc, digit-zero, some-digit, ones-zero, ones-more, ones-one, one-ones, some-ones}
 use Rattle.sets.proofs.Sets.{same-members}
 
 -- t is s less its part p
@@ -71,3 +71,7 @@ size-one s l = ones-one how-many (s .bits) (s .small) l
 
 pub one-size : (s : Parts) → ((p q : ℕ) → Has s p → Has s q → p ≡ q) → size s ≤ 1
 one-size s same = one-ones how-many (s .bits) (s .small) same
+
+-- a set that has a part counts one at least
+pub some-size : (s : Parts) (p : ℕ) → Has s p → 0 < size s
+some-size s p h = some-ones how-many (s .bits) p (s .small) h

@@ -8,8 +8,8 @@ use lib.Bits.{bitAnd}
 use Rattle.std.proofs.shelf.Tests.{cases-eq}
 use Rattle.sets.specs.declared.parts.Parts.{Parts}
 use Rattle.sets.specs.Width.{how-many}
-use Rattle.sets.specs.Members.{Has, Within, Apart, Holds}
-use Rattle.sets.proofs.Digits.{digit, digit-suc, digit-place}
+use Rattle.sets.specs.Members.{Has, Within, Apart, Empty, Holds}
+use Rattle.sets.proofs.Digits.{digit, digit-suc, digit-zero, digit-place, some-digit}
 use Rattle.sets.proofs.Sets.{within-and, and-within, apart-and, and-apart}
 
 -- it holds, or it does not
@@ -20,6 +20,10 @@ pub told-both : {P Q : Type 0} → Told P → Told Q → Told (P × Q)
 told-both (inl p) (inl q) = inl (p, q)
 told-both (inl p) (inr n) = inr (λ h. n (h .1))
 told-both (inr n) t = inr (λ h. n (h .0))
+
+pub told-not : {P : Type 0} → Told P → Told (P → ⊥)
+told-not (inl p) = inr (λ n. n p)
+told-not (inr n) = inl n
 
 pub told-has : (s : Parts) (p : ℕ) → Told (Has s p)
 told-has s p = cases-eq ((s .bits / 2 ^ p) % 2) 1
@@ -65,3 +69,10 @@ collect P told small =
     let n = digits-of how-many P told in
     let s : Parts = record { bits = n .0; small = n .1 } in
     (s, λ p. (λ h. n .2 p (known s p h) .0 h, λ h. n .2 p (small p h) .1 h))
+
+-- a set has no part, or some part
+pub some-or-none : (s : Parts) → Empty s ⊎ ((p : ℕ) × Has s p)
+some-or-none s = elim (some-digit how-many (s .bits) (s .small)) [
+  | inl z ↦ inl (λ p h. omega (arith, digit-zero p, ap (λ (x : ℕ). digit x p) z))
+  | inr t ↦ inr t
+]
