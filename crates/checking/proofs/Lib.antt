@@ -6,3 +6,5 @@ pub mod Noting
 pub mod Rows
 pub mod Turns
 pub mod Bytes
+pub mod Faults
+pub mod Single

@@ -9,3 +9,5 @@ pub mod Validity
 pub mod Rounds
 pub mod Justification
 pub mod Derivations
+pub mod Verdicts
+pub mod Laws

@@ -29,12 +29,7 @@ impl Rule {
     }
 
     /// The same, each set given by its number.
-    pub fn from_numbers(
-        kind: u8,
-        heads: Bits,
-        needs: Bits,
-        absences: Bits,
-    ) -> Result<Rule, Refusal>
+    pub fn from_numbers(kind: u8, heads: Bits, needs: Bits, absences: Bits) -> Result<Rule, Refusal>
         ensures { λ r. ⌜ Made kind (set-of heads) (set-of needs) (set-of absences) r ⌝ }
     {
         Rule::new(

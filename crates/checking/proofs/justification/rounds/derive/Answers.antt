@@ -24,8 +24,11 @@ extend-requires c κs = record {
 
 pub rounds-less : need.rounds-less
 rounds-less c =
-    omega (arith, turned-few (c .args .rules .now) (c .args .outfit) (c .rounds .round) (c .rounds .done) (c .extend .last .self) (c .next-round-new .result) (c .next-round-new .last .lowest) (c .rounds .inv .0)
-    (c .next-round-new .ensures) (c .if-is-none .ensures tt) (c .extend .ensures))
+    omega (
+      arith,
+      turned-few (c .args .rules .now) (c .args .outfit) (c .rounds .round) (c .rounds .done) (c .extend .last .self) (c .next-round-new .result) (c .next-round-new .last .lowest) (c .rounds .inv .0)
+          (c .next-round-new .ensures) (c .if-is-none .ensures tt) (c .extend .ensures),
+    )
 
 pub rounds-again : need.rounds-again
 rounds-again c = (
