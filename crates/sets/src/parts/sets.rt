@@ -27,7 +27,8 @@ impl Parts {
         ensures number { λ r. ⌜ r ≡ self .bits ⌝ }
         ensures back { λ r. ⌜ set-of r ≡ self ⌝ }
     {
-        self.bits
+        let Parts { bits } = self;
+        bits
     }
 
     /// The empty set.
