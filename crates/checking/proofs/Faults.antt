@@ -24,8 +24,8 @@ use Rattle.checking.specs.Refusals.{Code, numbered}
 use Rattle.checking.specs.Validity.{Chosen, Kept, Keeps, Valid}
 use Rattle.checking.specs.Rounds.{Justified}
 use Rattle.checking.specs.Justification.{Written, bytes, fronted}
-use Rattle.checking.specs.Derivations.{Derived}
-use Rattle.checking.specs.Verdicts.{Broken, Several-chosen, Blame, short, broken, roundless, Roundless, Fault, Passed, Verdict}
+use Rattle.checking.specs.Derivations.{Derived, Passed}
+use Rattle.checking.specs.Verdicts.{Broken, Several-chosen, Blame, short, broken, roundless, Roundless, Fault, Verdict}
 use Rattle.checking.proofs.Reduct.{in-outfit, justified-least}
 use Rattle.checking.proofs.Layers.{least-justified, valid-by-rounds}
 

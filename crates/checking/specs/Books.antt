@@ -1,11 +1,9 @@
 -- What a typed book means, and what entering a rule does. Assumes nothing.
 use mathlib.Core.Path.{_≡_}
-use mathlib.Core.List.{List, [], _∷_, _++_}
-use mathlib.Core.Logic.{_↔_}
-use Prim.Native.Nat.{ℕ, _<_, _≤_}
+use mathlib.Core.List.{[], _∷_, _++_}
+use Prim.Native.Nat.{_<_, _≤_}
+use native.Mathlib.Omega.{arith}
 use lib.ListN.{length}
-use Rattle.std.specs.Finite.{nth}
-use Rattle.std.specs.declared.option.Option.the-variants.{Some, None}
 use Rattle.std.specs.declared.result.Result.{Result}
 use Rattle.std.specs.declared.result.Result.the-variants.{Ok}
 use Rattle.checking.specs.declared.book.typed.TypedBook.{TypedBook}
@@ -18,7 +16,7 @@ use Rattle.checking.specs.Sizes.{most-rules}
 
 -- the rules that were entered
 abbrev pub typed : TypedBook → Meaning
-typed b = record { rules = held (b .rules); few = held-few (b .rules) }
+typed b = record { rules = held (b .rules); few = omega (arith, held-few (b .rules)) }
 
 -- the rule stands last; a 241st is refused with 22 at 240, and the book is as it was
 pub record Entered (rule : Rule) (was is : TypedBook) (r : Result (Unit {0}) Refusal) : Type 0 where

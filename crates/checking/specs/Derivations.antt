@@ -2,18 +2,21 @@
 use mathlib.Core.Path.{_≡_}
 use mathlib.Core.Logic.{_⊎_}
 use mathlib.Core.List.{List, [], _∷_, _++_}
-use Prim.Native.Nat.{ℕ, _<_}
+use Prim.Native.Nat.{ℕ, _<_, _≤_}
 use lib.ListN.{length, getD}
 use Rattle.std.specs.Finite.{nth}
 use Rattle.std.specs.declared.option.Option.the-variants.{Some}
 use Rattle.sets.specs.declared.parts.Parts.{Parts}
 use Rattle.sets.specs.Members.{Has, Holds, Lowest}
+use Rattle.sets.specs.Counting.{size}
 use Rattle.checking.specs.declared.justification.Derivation.{Derivation}
 use Rattle.checking.specs.declared.justification.Entry.{Entry}
 use Rattle.checking.specs.declared.rule.Rule.{Rule}
+use Rattle.checking.specs.Sizes.{least-room}
 use Rattle.checking.specs.Held.{held}
+use Rattle.checking.specs.Validity.{Valid}
 use Rattle.checking.specs.Rounds.{Brings, Follows, Round}
-use Rattle.checking.specs.Justification.{Lists}
+use Rattle.checking.specs.Justification.{Lists, Justification}
 
 -- the rule is noted for these parts, and nothing changes for others
 pub record Noted (parts : Parts) (rule : ℕ) (was is : List ℕ) : Type 0 where
@@ -47,3 +50,10 @@ pub record Extended (new : Parts) (round : ℕ) (lowest : List ℕ) (was is : De
 pub record Derived (rules : List Rule) (outfit : Parts) (d : Derivation) : Type 0 where
   pub reached : Holds (d .reached) (λ p. (k : ℕ) × Round rules outfit k p)
   pub lists : Lists rules outfit (λ p. (k : ℕ) × Round rules outfit k p) (held (d .entries))
+
+-- an outfit that passes, as it is derived
+pub record Passed (rules : List Rule) (outfit : Parts) (room : ℕ) (d : Derivation) : Type 0 where
+  pub enough : least-room ≤ room
+  pub valid : Valid rules outfit
+  pub entries : Justification rules outfit (held (d .entries))
+  pub count : length (held (d .entries)) ≡ size outfit

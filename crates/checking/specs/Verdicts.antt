@@ -9,16 +9,13 @@ use Rattle.std.specs.declared.option.Option.the-variants.{Some}
 use Rattle.std.specs.declared.result.Result.{Result}
 use Rattle.sets.specs.declared.parts.Parts.{Parts}
 use Rattle.sets.specs.Members.{Has, Empty, Lowest}
-use Rattle.sets.specs.Counting.{size}
-use Rattle.checking.specs.declared.justification.Derivation.{Derivation}
 use Rattle.checking.specs.declared.refusal.Refusal.{Refusal}
 use Rattle.checking.specs.declared.rule.Rule.{Rule}
 use Rattle.checking.specs.Sizes.{least-room}
-use Rattle.checking.specs.Held.{held}
 use Rattle.checking.specs.Refusals.{Code, numbered}
 use Rattle.checking.specs.Validity.{Chosen, Kept, Keeps, Valid}
 use Rattle.checking.specs.Rounds.{Round}
-use Rattle.checking.specs.Justification.{Justification, Written}
+use Rattle.checking.specs.Justification.{Written}
 
 -- rule i, which is r, is the lowest-numbered that is not kept
 abbrev pub Broken : List Rule → Parts → ℕ → Rule → Type 0
@@ -47,13 +44,6 @@ pub data Fault (rules : List Rule) (outfit : Parts) (room : ℕ) (code : Code) :
   short : room < least-room → code ≡ (51, 0) → Fault rules outfit room code
   broken : least-room ≤ room → (i : ℕ) (r : Rule) → Broken rules outfit i r → Blame r outfit i code → Fault rules outfit room code
   roundless : least-room ≤ room → Keeps rules outfit → (p : ℕ) → Lowest (Roundless rules outfit) p → code ≡ (55, p) → Fault rules outfit room code
-
--- an outfit that passes, as it is derived
-pub record Passed (rules : List Rule) (outfit : Parts) (room : ℕ) (d : Derivation) : Type 0 where
-  pub enough : least-room ≤ room
-  pub valid : Valid rules outfit
-  pub entries : Justification rules outfit (held (d .entries))
-  pub count : length (held (d .entries)) ≡ size outfit
 
 -- the answer, and what the buffer then holds
 abbrev pub Verdict : List Rule → Parts → List ℕ → List ℕ → Result ℕ Refusal → Type 0

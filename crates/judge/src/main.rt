@@ -11,11 +11,17 @@ use std::io;
 
 // The parts, each as the set that has it alone.
 const MILL: Bits = 1;
+
 const AXIAL: Bits = 2;
+
 const CROSS: Bits = 4;
+
 const GEARBOX: Bits = 8;
+
 const BRAKE: Bits = 16;
+
 const FLOATGATE: Bits = 32;
+
 const LIFTGATE: Bits = 64;
 
 fn name(part: u8) -> &'static str {

@@ -11,7 +11,7 @@ pub type Bits = u64;
 pub const PARTS: usize = 64;
 
 /// A set of parts.
-#[derive(Clone, Copy, PartialEq, Eq, Debug)]
+#[derive(Clone, Copy, PartialEq, Eq)]
 pub struct Parts {
     bits: Bits,
     ghost small: { bits < 2 ^ how-many },

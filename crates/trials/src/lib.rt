@@ -93,7 +93,15 @@ mod tests {
     // b <- c; b <- a; a <-; c <- b: rule 0 fires for b only after b is there
     #[test]
     fn lowest_rule() -> Result<(), Fail> {
-        let book = book_of(&[(0, 2, 4, 0), (0, 2, 1, 0), (0, 1, 0, 0), (0, 4, 2, 0), (0, 4, 2, 0)])?;
+        let book = book_of(
+            &[
+                (0, 2, 4, 0),
+                (0, 2, 1, 0),
+                (0, 1, 0, 0),
+                (0, 4, 2, 0),
+                (0, 4, 2, 0),
+            ],
+        )?;
         let mut buffer = [255; ROOM];
         check_eq(judge(&book, 7, &mut buffer), Ok(3))?;
         check(buffer[..10] == [0, 1, 2, 1, 2, 1, 2, 3, 3, 255])
