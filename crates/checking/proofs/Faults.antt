@@ -1,8 +1,8 @@
 -- From what was found to the reasons of a refusal. Assumes nothing.
 use mathlib.Core.Path.{_≡_, refl, sym, ap, _∙_, subst}
-use mathlib.Core.Logic.{_⊎_, inl, inr}
+use mathlib.Core.Logic.{inl, inr}
 use mathlib.Core.List.{List}
-use Prim.Native.Nat.{ℕ, _<_, _≤_}
+use Prim.Native.Nat.{ℕ, _≤_}
 use native.Mathlib.Omega.{arith}
 use lib.ListN.{length}
 use Rattle.std.specs.Orderings.{Decides}
@@ -25,7 +25,7 @@ use Rattle.checking.specs.Validity.{Chosen, Kept, Keeps, Valid}
 use Rattle.checking.specs.Rounds.{Justified}
 use Rattle.checking.specs.Justification.{Written, bytes, fronted}
 use Rattle.checking.specs.Derivations.{Derived, Passed}
-use Rattle.checking.specs.Verdicts.{Broken, Several-chosen, Blame, short, broken, roundless, Roundless, Fault, Verdict}
+use Rattle.checking.specs.Verdicts.{Several-chosen, short, broken, roundless, Roundless, Fault, Verdict}
 use Rattle.checking.proofs.Reduct.{in-outfit, justified-least}
 use Rattle.checking.proofs.Layers.{least-justified, valid-by-rounds}
 

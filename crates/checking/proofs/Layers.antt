@@ -1,6 +1,6 @@
 -- Which parts have a round can be told, so these parts make a set, the least model; and a part that has a round has a first one.
 -- Assumes nothing.
-use mathlib.Core.Path.{_≡_, refl, sym, subst}
+use mathlib.Core.Path.{_≡_, refl, subst}
 use mathlib.Core.Logic.{_⊎_, inl, inr}
 use mathlib.Core.List.{List, [], _∷_}
 use Prim.Native.Nat.{ℕ, zero, suc, _+_, _≤_, _<_}
@@ -15,10 +15,10 @@ use Rattle.sets.specs.Counting.{size}
 use Rattle.sets.proofs.Told.{Told, told-both, told-not, told-has, told-within, told-apart, known, collect, some-or-none}
 use Rattle.sets.proofs.Counts.{counting, size-more}
 use Rattle.checking.specs.declared.rule.Rule.{Rule}
-use Rattle.checking.specs.Validity.{Clause, Keeps, Least, Valid}
-use Rattle.checking.specs.Rounds.{Brings, Follows, By, Round, Lower, Justified, First-round-law, Round-law, Valid-by-rounds}
+use Rattle.checking.specs.Validity.{Clause, Least}
+use Rattle.checking.specs.Rounds.{Follows, By, Round, Lower, Justified, First-round-law, Round-law, Valid-by-rounds}
 use Rattle.checking.proofs.Nths.{nothing}
-use Rattle.checking.proofs.Reduct.{follows-more, by-suc, by-le, by-stable, in-outfit, least-holds, closed-follows, justified-least}
+use Rattle.checking.proofs.Reduct.{follows-more, by-suc, by-le, by-stable, least-holds, justified-least}
 
 told-follows : (rules : List Rule) (c s : Parts) (p : ℕ) → Told (Follows rules c (Has s) p)
 told-follows [] c s p = inr (λ f. nothing (f .1 .0) (f .1 .1))

@@ -1,5 +1,5 @@
 -- The lowest rule for each part of a round, noted rule by rule. Assumes nothing.
-use mathlib.Core.Path.{_≡_, refl, sym, ap, _∙_, subst}
+use mathlib.Core.Path.{_≡_, refl, sym, _∙_, subst}
 use mathlib.Core.Logic.{_⊎_, inl, inr}
 use mathlib.Core.List.{List}
 use Prim.Native.Nat.{ℕ, _+_, _≤_, _<_}
@@ -17,7 +17,7 @@ use Rattle.sets.proofs.Told.{told-has, known}
 use Rattle.sets.proofs.Counts.{size-more}
 use Rattle.checking.specs.declared.rule.Rule.{Rule}
 use Rattle.checking.specs.Validity.{Clause}
-use Rattle.checking.specs.Rounds.{Brings, Follows}
+use Rattle.checking.specs.Rounds.{Brings}
 use Rattle.checking.specs.Derivations.{Noted, Next}
 use Rattle.checking.proofs.Nths.{nth-below}
 

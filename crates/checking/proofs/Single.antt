@@ -1,9 +1,9 @@
 -- The reasons of a refusal exclude one another, and an outfit has one justification, so there is one answer. Assumes nothing.
 use mathlib.Core.Path.{_≡_, refl, sym, ap, _∙_, subst}
-use mathlib.Core.Logic.{_⊎_, inl, inr}
+use mathlib.Core.Logic.{inl, inr}
 use mathlib.Core.Bool.{cond}
 use mathlib.Core.List.{List, [], _∷_}
-use Prim.Native.Nat.{ℕ, zero, suc, _<_, _≤_}
+use Prim.Native.Nat.{ℕ, zero, suc, _<_}
 use native.Mathlib.Omega.{arith}
 use lib.Dec.{eqb}
 use lib.ListN.{length}
@@ -14,17 +14,16 @@ use Rattle.std.specs.declared.result.Result.the-variants.{Ok, Err}
 use Rattle.std.proofs.shelf.Maps.{nth-past}
 use Rattle.std.proofs.shelf.Tests.{cases-order}
 use Rattle.sets.specs.declared.parts.Parts.{Parts}
-use Rattle.sets.specs.Members.{Has, Lowest}
+use Rattle.sets.specs.Members.{Lowest}
 use Rattle.checking.specs.declared.justification.Entry.{Entry}
 use Rattle.checking.specs.declared.refusal.Refusal.{Refusal}
 use Rattle.checking.specs.declared.refusal.Refusal.the-variants.{UnfitKind, BookFull, ShortBuffer, NoneChosen, SeveralChosen, Incompatible, NoRound}
 use Rattle.checking.specs.declared.rule.Rule.{Rule}
-use Rattle.checking.specs.Sizes.{least-room}
 use Rattle.checking.specs.Refusals.{Code, numbered, Told-apart}
 use Rattle.checking.specs.Rounds.{Brings, Round, Lower}
 use Rattle.checking.specs.Justification.{Right, Before, Justification, Written, bytes, fronted}
 use Rattle.checking.specs.Verdicts.{Broken, Blame, none-chosen, several-chosen, incompatible, Roundless, Fault, short, broken, roundless, Verdict}
-use Rattle.checking.specs.Laws.{Laws, Ends}
+use Rattle.checking.specs.Laws.{Laws}
 use Rattle.checking.proofs.Nths.{nothing, none-past}
 use Rattle.checking.proofs.Reduct.{one-round}
 use Rattle.checking.proofs.Layers.{first-round-law, round-law, valid-by-rounds}

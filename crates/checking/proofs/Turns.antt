@@ -1,8 +1,8 @@
 -- Round after round: the parts and entries of rounds up to k, and those of round k + 1. Assumes nothing.
-use mathlib.Core.Path.{_≡_, refl, sym, ap, _∙_, subst}
+use mathlib.Core.Path.{_≡_, refl, sym, _∙_, subst}
 use mathlib.Core.Logic.{_⊎_, inl, inr}
-use mathlib.Core.List.{List, [], _∷_, _++_}
-use Prim.Native.Nat.{ℕ, zero, suc, _+_, _-_, _≤_, _<_, zero-le}
+use mathlib.Core.List.{List, [], _++_}
+use Prim.Native.Nat.{ℕ, suc, _+_, _-_, _≤_, _<_, zero-le}
 use native.Mathlib.Nat.{le-of-suc-le-suc}
 use native.Mathlib.Numerals.{add-one}
 use native.Mathlib.Omega.{arith}
@@ -20,7 +20,7 @@ use Rattle.checking.specs.declared.justification.Derivation.{Derivation}
 use Rattle.checking.specs.declared.justification.Entry.{Entry}
 use Rattle.checking.specs.declared.rule.Rule.{Rule}
 use Rattle.checking.specs.Held.{held}
-use Rattle.checking.specs.Rounds.{Brings, Follows, By, Round, Lower}
+use Rattle.checking.specs.Rounds.{Brings, By, Round, Lower}
 use Rattle.checking.specs.Justification.{Right, Before, Lists}
 use Rattle.checking.specs.Derivations.{Next, Rows, Extended, Derived}
 use Rattle.checking.proofs.Nths.{nothing, nth-below, nth-front, nth-back, nth-either}

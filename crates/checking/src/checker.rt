@@ -1,5 +1,4 @@
 // The judge: whether an outfit is valid, and why each part is in it, or what is wrong.
-ghost use mathlib.Core.Path.{_≡_};
 ghost use Prim.Native.Nat.{ℕ, _≤_};
 ghost use lib.ListN.{length};
 ghost use Rattle.std.specs.Options.{Cases as BySome};

@@ -1,15 +1,14 @@
 -- How many parts a set has, over any width. Assumes nothing.
 use mathlib.Core.Path.{_≡_, refl, sym, ap, _∙_, subst}
-use mathlib.Core.Logic.{_⊎_, inl, inr}
-use mathlib.Core.List.{List, [], _∷_}
-use Prim.Native.Nat.{ℕ, zero, suc, _+_, _-_, _*_, _/_, _%_, _^_, _≤_, _<_, zero-le}
+use mathlib.Core.Logic.{inl, inr}
+use Prim.Native.Nat.{ℕ, zero, suc, _+_, _-_, _*_, _/_, _%_, _^_, _≤_, _<_}
 use native.Mathlib.Omega.{arith}
 use lib.Count.{ones, ones-step, ones-le}
 use Rattle.sets.specs.declared.parts.Parts.{Parts}
 use Rattle.sets.specs.Width.{how-many}
-use Rattle.sets.specs.Members.{Has, Within, Empty, Holds}
+use Rattle.sets.specs.Members.{Has, Within}
 use Rattle.sets.specs.Counting.{size, Counting}
-use Rattle.sets.proofs.Digits.{digit, digit-suc, digit-zero, some-digit, ones-zero, ones-more, ones-one, one-ones, some-ones}
+use Rattle.sets.proofs.Digits.{digit, digit-suc, some-digit, ones-zero, ones-more, ones-one, one-ones, some-ones}
 use Rattle.sets.proofs.Sets.{same-members}
 
 -- t is s less its part p

@@ -1,8 +1,7 @@
 // Lists held in place: one item more, the item at a place, all of them.
 ghost use mathlib.Core.Path.{_≡_};
-ghost use mathlib.Core.List.{List, [], _∷_, _++_};
-ghost use Prim.Native.Nat.{ℕ, _≤_, _<_};
-ghost use lib.ListN.{length};
+ghost use mathlib.Core.List.{[]};
+ghost use Prim.Native.Nat.{_<_};
 ghost use Rattle.std.specs.Finite.{nth};
 ghost use Rattle.checking.specs.Held.{held, Pushed};
 use crate::held::Held;

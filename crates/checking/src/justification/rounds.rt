@@ -1,7 +1,7 @@
 // The derivation of an outfit's parts, round by round. Each rule is looked at once in each round.
 ghost use mathlib.Core.Path.{_≡_};
 ghost use mathlib.Core.List.{[]};
-ghost use Prim.Native.Nat.{ℕ, _<_, _≤_};
+ghost use Prim.Native.Nat.{_<_, _≤_};
 ghost use lib.ListN.{length};
 ghost use Rattle.sets.specs.Width.{how-many};
 ghost use Rattle.sets.specs.Members.{Apart, Empty, Has};

@@ -3,6 +3,7 @@ use mathlib.Core.List.{List, _++_, _∷_, [], append-assoc}
 use Prim.Native.Nat.{ℕ, _+_, _<_, _≤_}
 use native.Mathlib.Omega.{arith}
 use lib.ListN.{length, take, length-append}
+use Rattle.std.specs.Finite.{nth}
 use Rattle.std.proofs.shelf.Lists.{length-take-le, take-all}
 use Rattle.checking.specs.declared.rule.Rule.{Rule}
 use Rattle.checking.specs.Held.{held}
@@ -18,7 +19,7 @@ long a b xs i e l = ap length e ∙ length-append b (take i xs) ∙ ap (λ n. le
 pub loop-rule-less : need.loop-rule-less
 loop-rule-less g c =
     let all = g .B·Book .meaning (c .args .book .now) .rules in
-    let l = nth-below all (c .loop-rule .place) (c .in-Some .rule) (sym (c .in-Some .ensures tt)) in
+    let l = nth-below all (c .loop-rule .place) (c .in-Some .rule) (sym {b = nth all (c .loop-rule .place)} (c .in-Some .ensures tt)) in
     omega arith
 
 pub loop-rule-again : need.loop-rule-again
@@ -27,7 +28,7 @@ loop-rule-again g c =
     let was = held (c .args .rules .now) in
     let i = c .loop-rule .place in
     let x = c .in-Some .rule in
-    let e = sym (c .in-Some .ensures tt) in
+    let e = sym {b = nth all i} (c .in-Some .ensures tt) in
     let l = nth-below all i x e in
     let room : length (held (c .loop-rule .rules)) < most-in-force = omega (arith, long (held (c .loop-rule .rules)) was all i (c .loop-rule .inv .0) (c .loop-rule .inv .1), c .pre) in
     let more = pushed x (c .loop-rule .rules) (c .push .last .self) (c .push .result) room (c .push .ensures) in
@@ -36,4 +37,4 @@ loop-rule-again g c =
 pub returns : need.returns
 returns g c =
     let all = g .B·Book .meaning (c .args .book .now) .rules in
-    c .loop-rule .inv .0 ∙ ap (λ t. held (c .args .rules .now) ++ t) (take-all (c .loop-rule .place) all (none-past all (c .loop-rule .place) (sym (c .in-rest .ensures tt))))
+    c .loop-rule .inv .0 ∙ ap (λ t. held (c .args .rules .now) ++ t) (take-all (c .loop-rule .place) all (none-past all (c .loop-rule .place) (sym {b = nth all (c .loop-rule .place)} (c .in-rest .ensures tt))))

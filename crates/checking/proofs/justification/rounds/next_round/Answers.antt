@@ -1,5 +1,4 @@
 use mathlib.Core.Path.{refl}
-use native.Mathlib.Omega.{arith}
 use Rattle.std.proofs.shelf.Maps.{nth-read}
 use Rattle.checking.proofs.Noting.{sofar-none, sofar-more, sofar-all}
 use Rattle.checking.proofs.justification.rounds.next_round.Needs as need

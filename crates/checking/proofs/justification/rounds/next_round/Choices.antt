@@ -1,5 +1,3 @@
-use mathlib.Core.Path.{_≡_}
-use lib.ListN.{length}
 use Rattle.checking.proofs.Noting.{Sofar}
 use Rattle.checking.proofs.justification.rounds.next_round.Given as given
 

@@ -1,5 +1,3 @@
-use Prim.Native.Nat.{_<_, _^_}
-use native.Mathlib.Omega.{arith}
 use Rattle.std.proofs.shelf.Tests.{eqb-true, eq-eqb}
 use Rattle.sets.specs.Width.{how-many}
 use Rattle.sets.proofs.Sets.{apart-and, and-apart}

@@ -1,8 +1,4 @@
-use mathlib.Core.Path.{_≡_}
 use mathlib.Core.Logic.{inl, inr}
-use Prim.Native.Nat.{ℕ}
-use native.Mathlib.Omega.{arith}
-use Rattle.sets.specs.Members.{Has}
 use Rattle.sets.proofs.Told.{known}
 use Rattle.sets.proofs.parts.Parts.without.Needs as need
 
