@@ -21,11 +21,10 @@ use Rattle.checking.specs.declared.rule.Rule.{Rule}
 use Rattle.checking.specs.Sizes.{least-room}
 use Rattle.checking.specs.Held.{held}
 use Rattle.checking.specs.Refusals.{Code, numbered}
-use Rattle.checking.specs.Validity.{Chosen, Kept, Keeps, Valid}
-use Rattle.checking.specs.Rounds.{Justified}
+use Rattle.checking.specs.Validity.{Chosen, Kept, Keeps}
 use Rattle.checking.specs.Justification.{Written, bytes, fronted}
 use Rattle.checking.specs.Derivations.{Derived, Passed}
-use Rattle.checking.specs.Verdicts.{Several-chosen, short, broken, roundless, Roundless, Fault, Verdict}
+use Rattle.checking.specs.Verdicts.{Several-chosen, short, broken, roundless, Roundless, Fault, Passing, Passing-by-rounds, Verdict}
 use Rattle.checking.proofs.Reduct.{in-outfit, justified-least}
 use Rattle.checking.proofs.Layers.{least-justified, valid-by-rounds}
 
@@ -86,22 +85,22 @@ module _ (rules : List Rule) (c : Parts) (d : Derivation) (reached rest : Parts)
 
 -- what was derived and written
 pub written : (rules : List Rule) (c : Parts) (d : Derivation) (n : ℕ) (old new : List ℕ) → Passed rules c (length old) d → n ≡ length (held (d .entries))
-    → new ≡ fronted (bytes (held (d .entries))) old → (least-room ≤ length old) × Valid rules c × Written rules c n old new
+    → new ≡ fronted (bytes (held (d .entries))) old → Passing rules c (length old) × Written rules c n old new
 written rules c d n old new p count buffer =
-    (p .enough, p .valid, record { entries = held (d .entries); is = p .entries; parts = count ∙ p .count; count = count; buffer = buffer })
+    ((p .enough, p .valid), record { entries = held (d .entries); is = p .entries; parts = count ∙ p .count; count = count; buffer = buffer })
 
 -- what is refused is not valid
-pub fault-invalid : (rules : List Rule) (c : Parts) (room : ℕ) (code : Code) → Fault rules c room code → (least-room ≤ room) × Valid rules c → ⊥
+pub fault-invalid : (rules : List Rule) (c : Parts) (room : ℕ) (code : Code) → Fault rules c room code → Passing rules c room → ⊥
 fault-invalid rules c room code (short l e) v = omega (arith, l, v .0)
 fault-invalid rules c room code (broken l i r b t) v = b .1 (v .1 .0 i r (b .0))
 fault-invalid rules c room code (roundless l k p low e) v = let j = least-justified rules c (v .1 .1) p (low .0 .0) in low .0 .1 (j .0) (j .1)
 
-pub passes : (rules : List Rule) (c : Parts) (old new : List ℕ) (r : Result ℕ Refusal) → Verdict rules c old new r → Decides (isOk r) ((least-room ≤ length old) × Valid rules c)
-passes rules c old new (Ok n) v = (λ t. (v .0, v .1), λ h. refl)
+pub passes : (rules : List Rule) (c : Parts) (old new : List ℕ) (r : Result ℕ Refusal) → Verdict rules c old new r → Decides (isOk r) (Passing rules c (length old))
+passes rules c old new (Ok n) v = (λ t. v .0, λ h. refl)
 passes rules c old new (Err e) v = (λ t. absurd (false≢true t), λ h. absurd (fault-invalid rules c (length old) (numbered e) (v .0) h))
 
 pub passes-rounds : (rules : List Rule) (c : Parts) (old new : List ℕ) (r : Result ℕ Refusal) → Verdict rules c old new r
-    → Decides (isOk r) ((least-room ≤ length old) × Keeps rules c × Justified rules c)
+    → Decides (isOk r) (Passing-by-rounds rules c (length old))
 passes-rounds rules c old new r v =
     let p = passes rules c old new r v in
     let b = valid-by-rounds rules c in

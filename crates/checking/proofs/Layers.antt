@@ -15,7 +15,7 @@ use Rattle.sets.specs.Counting.{size}
 use Rattle.sets.proofs.Told.{Told, told-both, told-not, told-has, told-within, told-apart, known, collect, some-or-none}
 use Rattle.sets.proofs.Counts.{counting, size-more}
 use Rattle.checking.specs.declared.rule.Rule.{Rule}
-use Rattle.checking.specs.Validity.{Clause, Least}
+use Rattle.checking.specs.Validity.{Clause-for, Reduct, Least-model}
 use Rattle.checking.specs.Rounds.{Follows, By, Round, Lower, Justified, First-round-law, Round-law, Valid-by-rounds}
 use Rattle.checking.proofs.Nths.{nothing}
 use Rattle.checking.proofs.Reduct.{follows-more, by-suc, by-le, by-stable, least-holds, justified-least}
@@ -26,7 +26,7 @@ told-follows (r ∷ rules) c s p =
     go (told-follows rules c s p) (told-both (told-both (told-apart (r .absences) c) (told-both (told-has (r .heads) p) (told-has c p))) (told-within (r .needs) s))
   where
     Here : Rule → Type 0
-    Here x = Clause x c p × ((q : ℕ) → Has (x .needs) q → Has s q)
+    Here x = Clause-for x c p × ((q : ℕ) → Has (x .needs) q → Has s q)
 
     tail : (Here r → ⊥) → (i : ℕ) (x : Rule) → nth (r ∷ rules) i ≡ Some x → Here x → Follows rules c (Has s) p
     tail n zero x e g = let is : x ≡ r = cc in absurd (n (subst Here is g))
@@ -99,7 +99,7 @@ module _ (rules : List Rule) (c : Parts) where
       let s = layer (last .0) in
       (s .0, λ p. (λ h. (last .0, s .1 p .0 h), λ b. s .1 p .1 (by-stable rules c (last .0) (last .1) (b .0) p (b .1))))
 
-  pub least-justified : Least rules c c → Justified rules c
+  pub least-justified : Least-model (Reduct rules c) c → Justified rules c
   least-justified h p i =
       let b = model .1 p .0 (h .1 (model .0) (least-holds rules c (model .0) (model .1) .0) p i) in
       let f = first-round (b .0) p (b .1) in (f .0, f .2)

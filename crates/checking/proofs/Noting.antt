@@ -16,7 +16,7 @@ use Rattle.sets.specs.Counting.{size}
 use Rattle.sets.proofs.Told.{told-has, known}
 use Rattle.sets.proofs.Counts.{size-more}
 use Rattle.checking.specs.declared.rule.Rule.{Rule}
-use Rattle.checking.specs.Validity.{Clause}
+use Rattle.checking.specs.Validity.{Clause-for}
 use Rattle.checking.specs.Rounds.{Brings}
 use Rattle.checking.specs.Derivations.{Noted, Next}
 use Rattle.checking.proofs.Nths.{nth-below}
@@ -62,7 +62,7 @@ module _ (rules : List Rule) (c below : Parts) where
   }
 
   module _ (n : ℕ) (r : Rule) (at : nth rules n ≡ Some r) (new gives either fresh next : Parts) (was is : List ℕ)
-      (g : Holds gives (λ p. Clause r c p × Within (r .needs) below)) (u : Holds either (λ p. Has below p ⊎ Has new p))
+      (g : Holds gives (λ p. Clause-for r c p × Within (r .needs) below)) (u : Holds either (λ p. Has below p ⊎ Has new p))
       (f : Holds fresh (λ p. Has gives p × (Has either p → ⊥))) (x : Holds next (λ p. Has new p ⊎ Has fresh p))
       (noted : Noted fresh n was is) (so : Sofar rules c below n new was) where
     not-new : (p : ℕ) → Has fresh p → Has new p → ⊥
@@ -88,7 +88,7 @@ module _ (rules : List Rule) (c below : Parts) where
             | inl e ↦
                 let here : nth rules n ≡ Some (b .0) = subst (λ (k : ℕ). nth rules k ≡ Some (b .0)) e (b .1) in
                 let same : b .0 ≡ r = cc (here, at) in
-                let t = subst (λ (y : Rule). Clause y c p × Within (y .needs) below) same (b .2, b .3) in
+                let t = subst (λ (y : Rule). Clause-for y c p × Within (y .needs) below) same (b .2, b .3) in
                 x p .1 (inr (f p .1 (g p .1 t, λ a. elim (u p .0 a) [ inl h ↦ out h | inr h ↦ m h ])))
             | inr d ↦ absurd (m (so .parts p .1 ((i, omega arith, b), out)))
           ]

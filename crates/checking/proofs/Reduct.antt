@@ -1,5 +1,5 @@
 -- Rounds and the least model of the reduct. Assumes nothing.
-use mathlib.Core.Path.{_≡_, sym, subst}
+use mathlib.Core.Path.{_≡_, refl, sym, subst}
 use mathlib.Core.Logic.{inl, inr}
 use mathlib.Core.List.{List}
 use Prim.Native.Nat.{ℕ, zero, suc, _≤_, _<_, max}
@@ -12,7 +12,7 @@ use Rattle.sets.specs.Width.{how-many}
 use Rattle.sets.specs.Members.{Has, Holds}
 use Rattle.sets.proofs.Told.{Told, told-has, known}
 use Rattle.checking.specs.declared.rule.Rule.{Rule}
-use Rattle.checking.specs.Validity.{Closed, Least}
+use Rattle.checking.specs.Validity.{Reduct, Closed, Least-model}
 use Rattle.checking.specs.Rounds.{Brings, Follows, By, Round, Justified}
 
 module _ (rules : List Rule) (c : Parts) where
@@ -22,12 +22,12 @@ module _ (rules : List Rule) (c : Parts) where
   pub follows-more : {S S′ : ℕ → Type 0} → ((q : ℕ) → S q → S′ q) → (p : ℕ) → Follows rules c S p → Follows rules c S′ p
   follows-more f p h = (h .0, brings-more f p (h .0) (h .1))
 
-  -- a set is closed under the clauses when it has what follows from it
-  pub closed-follows : (m : Parts) → Closed rules c m → (p : ℕ) → Follows rules c (Has m) p → Has m p
-  closed-follows m h p f = h (f .0) (f .1 .0) p (f .1 .1) (f .1 .2) (f .1 .3)
+  -- a set is closed under the clauses of the reduct when it has what follows from it
+  pub closed-follows : (m : Parts) → Closed (Reduct rules c) m → (p : ℕ) → Follows rules c (Has m) p → Has m p
+  closed-follows m h p f = h (record { needs = f .1 .0 .needs; head = p }) (f .0, f .1 .0, f .1 .1, f .1 .2, refl) (f .1 .3)
 
-  pub follows-closed : (m : Parts) → ((p : ℕ) → Follows rules c (Has m) p → Has m p) → Closed rules c m
-  follows-closed m h i r p at clause needs = h p (i, (r, at, clause, needs))
+  pub follows-closed : (m : Parts) → ((p : ℕ) → Follows rules c (Has m) p → Has m p) → Closed (Reduct rules c) m
+  follows-closed m h k t needs = h (k .head) (t .0, (t .1, t .2, t .3, λ q i. needs q (subst (λ (s : Parts). Has s q) (sym (t .4)) i)))
 
   -- a round of at most k is one of at most k + 1
   pub by-suc : (k p : ℕ) → By rules c k p → By rules c (suc k) p
@@ -95,12 +95,12 @@ module _ (rules : List Rule) (c : Parts) where
       (suc (b .0), (h .0, (h .1 .0, h .1 .1, h .1 .2, λ q i. b .1 q (known n q i) i)))
 
   -- a set of just the parts that have a round is the least model
-  pub least-holds : (m : Parts) → Holds m (λ p. (k : ℕ) × By rules c k p) → Least rules c m
+  pub least-holds : (m : Parts) → Holds m (λ p. (k : ℕ) × By rules c k p) → Least-model (Reduct rules c) m
   least-holds m h = (
     follows-closed m (λ p f. h p .1 (rounds-closed p (follows-more (λ q. h q .0) p f))),
     λ n cl p i. let b = h p .0 i in by-closed (Has n) (closed-follows n cl) (b .0) p (b .1),
   )
 
   -- an outfit all of whose parts have a round is the least model of its own reduct
-  pub justified-least : Justified rules c → Least rules c c
+  pub justified-least : Justified rules c → Least-model (Reduct rules c) c
   justified-least h = least-holds c (λ p. (λ i. let t = h p i in (t .0, t .1 .0), λ t. in-outfit (t .0) p (t .1)))

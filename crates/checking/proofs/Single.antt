@@ -156,9 +156,9 @@ module _ (rules : List Rule) (c : Parts) where
       (a .parts ∙ sym (b .parts), a .buffer ∙ ap (λ es. fronted (bytes es) old) same ∙ sym (b .buffer))
 
   one-verdict : (old new other : List ℕ) (r s : Result ℕ Refusal) → Verdict rules c old new r → Verdict rules c old other s → (r ≡ s) × (new ≡ other)
-  one-verdict old new other (Ok m) (Ok n) a b = let w = one-written m n old new other (a .2) (b .2) in (ap Ok (w .0), w .1)
-  one-verdict old new other (Ok m) (Err f) a b = absurd (fault-invalid rules c (length old) (numbered f) (b .0) (a .0, a .1))
-  one-verdict old new other (Err e) (Ok n) a b = absurd (fault-invalid rules c (length old) (numbered e) (a .0) (b .0, b .1))
+  one-verdict old new other (Ok m) (Ok n) a b = let w = one-written m n old new other (a .1) (b .1) in (ap Ok (w .0), w .1)
+  one-verdict old new other (Ok m) (Err f) a b = absurd (fault-invalid rules c (length old) (numbered f) (b .0) (a .0))
+  one-verdict old new other (Err e) (Ok n) a b = absurd (fault-invalid rules c (length old) (numbered e) (a .0) (b .0))
   one-verdict old new other (Err e) (Err f) a b = (ap Err (told-apart e f (one-fault (length old) (numbered e) (numbered f) (a .0) (b .0))), a .1 ∙ sym (b .1))
 
 pub laws : Laws

@@ -8,11 +8,11 @@ use Rattle.std.specs.declared.option.Option.the-variants.{Some}
 use Rattle.sets.specs.declared.parts.Parts.{Parts}
 use Rattle.sets.specs.Members.{Has, Empty}
 use Rattle.checking.specs.declared.rule.Rule.{Rule}
-use Rattle.checking.specs.Validity.{Clause, Keeps, Valid}
+use Rattle.checking.specs.Validity.{Clause-for, Keeps, Valid}
 
 -- rule i has a clause for p, and S holds of all needs of that clause
 abbrev pub Brings : List Rule → Parts → (ℕ → Type 0) → ℕ → ℕ → Type 0
-Brings rules outfit S p i = (r : Rule) × (nth rules i ≡ Some r) × Clause r outfit p × ((q : ℕ) → Has (r .needs) q → S q)
+Brings rules outfit S p i = (r : Rule) × (nth rules i ≡ Some r) × Clause-for r outfit p × ((q : ℕ) → Has (r .needs) q → S q)
 
 -- some rule has such a clause
 abbrev pub Follows : List Rule → Parts → (ℕ → Type 0) → ℕ → Type 0
@@ -39,7 +39,7 @@ Justified rules outfit = (p : ℕ) → Has outfit p → (k : ℕ) × Round rules
 abbrev pub First-round-law : Type 0
 First-round-law =
     (rules : List Rule) (outfit : Parts) (p : ℕ)
-    → Round rules outfit 1 p ↔ ((i : ℕ) × (r : Rule) × (nth rules i ≡ Some r) × Clause r outfit p × Empty (r .needs))
+    → Round rules outfit 1 p ↔ ((i : ℕ) × (r : Rule) × (nth rules i ≡ Some r) × Clause-for r outfit p × Empty (r .needs))
 
 -- a part has round k, from 1 on, when it has no lower round and a clause for it has needs of rounds below k only; none has round 0
 abbrev pub Round-law : Type 0

@@ -27,20 +27,28 @@ Kept r outfit = Applies r outfit → ((p : ℕ) × Chosen r outfit p) × (r .kin
 abbrev pub Keeps : List Rule → Parts → Type 0
 Keeps rules outfit = (i : ℕ) (r : Rule) → nth rules i ≡ Some r → Kept r outfit
 
--- The clauses of a rule for an outfit: where none of its absences is in the outfit, one from the needs to each head that is.
--- The absences are read against the outfit, whatever else is derived.
-abbrev pub Clause : Rule → Parts → ℕ → Type 0
-Clause r outfit p = Apart (r .absences) outfit × Chosen r outfit p
+-- A rule none of whose absences is in the outfit has a clause for each chosen head, from its needs to that head. The absences are read
+-- against the outfit, whatever is derived.
+abbrev pub Clause-for : Rule → Parts → ℕ → Type 0
+Clause-for r outfit p = Apart (r .absences) outfit × Chosen r outfit p
 
--- The clauses of all rules are the reduct for the outfit. A set is closed under them when it has the head of each clause whose
--- needs it has.
-abbrev pub Closed : List Rule → Parts → Parts → Type 0
-Closed rules outfit m = (i : ℕ) (r : Rule) (p : ℕ) → nth rules i ≡ Some r → Clause r outfit p → Within (r .needs) m → Has m p
+-- a clause: where all its needs are, its head is
+pub record Clause : Type 0 where
+  pub needs : Parts
+  pub head : ℕ
 
--- the least model of the reduct is the least set that is closed under the clauses
-abbrev pub Least : List Rule → Parts → Parts → Type 0
-Least rules outfit m = Closed rules outfit m × ((n : Parts) → Closed rules outfit n → Within m n)
+-- the reduct for an outfit is the set of the clauses of all rules
+abbrev pub Reduct : List Rule → Parts → Clause → Type 0
+Reduct rules outfit k = (i : ℕ) × (r : Rule) × (nth rules i ≡ Some r) × Clause-for r outfit (k .head) × (k .needs ≡ r .needs)
+
+-- a set of parts is closed under a set of clauses when it has the head of each clause whose needs it has
+abbrev pub Closed : (Clause → Type 0) → Parts → Type 0
+Closed clauses m = (k : Clause) → clauses k → Within (k .needs) m → Has m (k .head)
+
+-- the least model is the least set that is closed
+abbrev pub Least-model : (Clause → Type 0) → Parts → Type 0
+Least-model clauses m = Closed clauses m × ((n : Parts) → Closed clauses n → Within m n)
 
 -- an outfit is valid when it keeps every rule and is the least model of the reduct for itself
 abbrev pub Valid : List Rule → Parts → Type 0
-Valid rules outfit = Keeps rules outfit × Least rules outfit outfit
+Valid rules outfit = Keeps rules outfit × Least-model (Reduct rules outfit) outfit

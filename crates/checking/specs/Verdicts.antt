@@ -14,7 +14,7 @@ use Rattle.checking.specs.declared.rule.Rule.{Rule}
 use Rattle.checking.specs.Sizes.{least-room}
 use Rattle.checking.specs.Refusals.{Code, numbered}
 use Rattle.checking.specs.Validity.{Chosen, Kept, Keeps, Valid}
-use Rattle.checking.specs.Rounds.{Round}
+use Rattle.checking.specs.Rounds.{Round, Justified}
 use Rattle.checking.specs.Justification.{Written}
 
 -- rule i, which is r, is the lowest-numbered that is not kept
@@ -45,10 +45,18 @@ pub data Fault (rules : List Rule) (outfit : Parts) (room : ℕ) (code : Code) :
   broken : least-room ≤ room → (i : ℕ) (r : Rule) → Broken rules outfit i r → Blame r outfit i code → Fault rules outfit room code
   roundless : least-room ≤ room → Keeps rules outfit → (p : ℕ) → Lowest (Roundless rules outfit) p → code ≡ (55, p) → Fault rules outfit room code
 
+-- an outfit passes when the buffer has the room and the outfit is valid
+abbrev pub Passing : List Rule → Parts → ℕ → Type 0
+Passing rules outfit room = (least-room ≤ room) × Valid rules outfit
+
+-- the same by rounds
+abbrev pub Passing-by-rounds : List Rule → Parts → ℕ → Type 0
+Passing-by-rounds rules outfit room = (least-room ≤ room) × Keeps rules outfit × Justified rules outfit
+
 -- the answer, and what the buffer then holds
 abbrev pub Verdict : List Rule → Parts → List ℕ → List ℕ → Result ℕ Refusal → Type 0
 Verdict rules outfit old new r =
-    Cases r (λ n. (least-room ≤ length old) × Valid rules outfit × Written rules outfit n old new) (λ e. Fault rules outfit (length old) (numbered e) × (new ≡ old))
+    Cases r (λ n. Passing rules outfit (length old) × Written rules outfit n old new) (λ e. Fault rules outfit (length old) (numbered e) × (new ≡ old))
 
 -- this fixes the answer and every byte of the buffer
 abbrev pub One-verdict : Type 0

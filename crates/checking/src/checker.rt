@@ -7,10 +7,9 @@ ghost use Rattle.std.specs.Results.{isOk, Cases};
 ghost use Rattle.sets.specs.Numbers.{set-of};
 ghost use Rattle.checking.specs.Sizes.{least-room, most-in-force};
 ghost use Rattle.checking.specs.Refusals.{numbered};
-ghost use Rattle.checking.specs.Validity.{Kept, Keeps, Valid};
-ghost use Rattle.checking.specs.Rounds.{Justified};
+ghost use Rattle.checking.specs.Validity.{Kept, Keeps};
 ghost use Rattle.checking.specs.Derivations.{Passed};
-ghost use Rattle.checking.specs.Verdicts.{Blame, Fault, Verdict};
+ghost use Rattle.checking.specs.Verdicts.{Blame, Fault, Passing, Passing-by-rounds, Verdict};
 ghost use Rattle.checking.specs.Laws.{Laws};
 use crate::book::Book;
 use crate::book::walk::in_force;
@@ -89,8 +88,8 @@ pub(crate) fn judge_rules(
 /// buffer, and the answer is the number of its parts; on a refusal the buffer is as it was.
 pub fn judge<B: Book>(book: &B, outfit: Bits, buffer: &mut [u8]) -> Result<usize, Refusal>
     ensures verdict { λ r. ⌜ Verdict (meaning (now (book .entry)) .rules) (set-of outfit) (now (buffer .entry)) (now (buffer .exit)) r ⌝ }
-    ensures valid { λ r. ⌜ Decides (isOk r) ((least-room ≤ length (now (buffer .entry))) × Valid (meaning (now (book .entry)) .rules) (set-of outfit)) ⌝ }
-    ensures rounds { λ r. ⌜ Decides (isOk r) ((least-room ≤ length (now (buffer .entry))) × Keeps (meaning (now (book .entry)) .rules) (set-of outfit) × Justified (meaning (now (book .entry)) .rules) (set-of outfit)) ⌝ }
+    ensures valid { λ r. ⌜ Decides (isOk r) (Passing (meaning (now (book .entry)) .rules) (set-of outfit) (length (now (buffer .entry)))) ⌝ }
+    ensures rounds { λ r. ⌜ Decides (isOk r) (Passing-by-rounds (meaning (now (book .entry)) .rules) (set-of outfit) (length (now (buffer .entry)))) ⌝ }
     ensures laws { λ _. ⌜ Laws ⌝ }
 {
     let rules = in_force(book);

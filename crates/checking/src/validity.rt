@@ -1,7 +1,7 @@
 // What one rule asks of an outfit, and what it derives.
 ghost use Rattle.std.specs.Orderings.{Decides};
 ghost use Rattle.sets.specs.Members.{Within, Holds};
-ghost use Rattle.checking.specs.Validity.{Applies, Clause, Kept};
+ghost use Rattle.checking.specs.Validity.{Applies, Clause-for, Kept};
 use crate::rule::Rule;
 use sets::parts::Parts;
 
@@ -28,7 +28,7 @@ pub fn kept(rule: &Rule, outfit: Parts) -> bool
 
 /// The heads of the rule's clauses for the outfit, once the parts in `reached` are there.
 pub fn given(rule: &Rule, outfit: Parts, reached: Parts) -> Parts
-    ensures { λ r. ⌜ Holds r (λ p. Clause (now (rule .entry)) outfit p × Within (now (rule .entry) .needs) reached) ⌝ }
+    ensures { λ r. ⌜ Holds r (λ p. Clause-for (now (rule .entry)) outfit p × Within (now (rule .entry) .needs) reached) ⌝ }
 {
     if rule.absences.apart(outfit) && rule.needs.within(reached) {
         rule.heads.common(outfit)
