@@ -1,5 +1,5 @@
-// The checking half: rules, refusals, books, what makes an outfit valid, its justification, and the checker.
-// The modules stand in the order in which data flows.
+// The checking half. Data flows through its modules in this order: rule, refusal, book, validity, justification, checker. The lists that
+// they hold in place stand in held.
 pub mod book;
 pub mod checker;
 mod held;
