@@ -8,6 +8,7 @@ use lib.ListN.{length, take, length-take}
 use Rattle.std.specs.Orderings.{When}
 use Rattle.checking.specs.declared.held.Held.{Held}
 
+-- the first items of the array, as many as the count says
 abbrev pub held : {X : Type 0} {n : ℕ} → Held X n → List X
 held h = take (h .count) (h .items)
 

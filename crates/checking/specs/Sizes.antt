@@ -6,7 +6,7 @@ use Rattle.sets.specs.Width.{how-many}
 abbrev pub most-rules : ℕ
 most-rules = 240
 
--- the rules in force at once: those of a book, and 16 more
+-- the rules in force at once: those of a book, and up to 16 that are added to them
 abbrev pub most-in-force : ℕ
 most-in-force = 256
 

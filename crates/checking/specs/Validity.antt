@@ -24,6 +24,7 @@ At-most-one r outfit = (p q : ℕ) → Chosen r outfit p → Chosen r outfit q �
 abbrev pub Kept : Rule → Parts → Type 0
 Kept r outfit = Applies r outfit → ((p : ℕ) × Chosen r outfit p) × (r .kind ≡ 2 → At-most-one r outfit)
 
+-- every rule is kept
 abbrev pub Keeps : List Rule → Parts → Type 0
 Keeps rules outfit = (i : ℕ) (r : Rule) → nth rules i ≡ Some r → Kept r outfit
 

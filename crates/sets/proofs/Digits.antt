@@ -54,6 +54,10 @@ digit-pow-other (suc q) (suc p) h =
     let e : 2 ^ suc q / 2 ≡ 2 ^ q = omega arith in
     digit-suc (2 ^ suc q) p ∙ ap (λ (x : ℕ). digit x p) e ∙ digit-pow-other q p (λ s. h (ap suc s))
 
+-- so the set of the number 2 ^ q has just the part q
+pub holds-pow : (q p : ℕ) → (digit (2 ^ q) p ≡ 1 → p ≡ q) × (p ≡ q → digit (2 ^ q) p ≡ 1)
+holds-pow q p = (λ h. elim (cases-eq p q) [ inl e ↦ e | inr n ↦ omega (arith, digit-pow-other q p n) ], λ e. subst (λ (x : ℕ). digit (2 ^ q) x ≡ 1) (sym e) (digit-pow q))
+
 -- the digits of `!b`, at a width w
 pub digit-not : (w b p : ℕ) → b < 2 ^ w → p < w → digit (2 ^ w - 1 - b) p ≡ 1 - digit b p
 digit-not zero b p h l = omega arith
@@ -62,11 +66,6 @@ digit-not (suc w) b (suc p) h l =
     let e : (2 ^ suc w - 1 - b) / 2 ≡ 2 ^ w - 1 - b / 2 = omega (arith, pow-pos w) in
     digit-suc (2 ^ suc w - 1 - b) p ∙ ap (λ (x : ℕ). digit x p) e ∙ digit-not w (b / 2) p (omega arith) (omega arith)
     ∙ ap (λ (x : ℕ). 1 - x) (sym (digit-suc b p))
-
--- a digit 1 stands at a place below the number
-pub digit-below : (s p : ℕ) → digit s p ≡ 1 → p < s
-digit-below s zero h = omega arith
-digit-below s (suc p) h = let l = digit-below (s / 2) p (sym (digit-suc s p) ∙ h) in omega arith
 
 -- a number has a digit 1, unless it is 0
 pub some-digit : (w s : ℕ) → s < 2 ^ w → (s ≡ 0) ⊎ ((p : ℕ) × (digit s p ≡ 1))
@@ -114,11 +113,8 @@ ones-one w n h l p q i j = elim (cases-eq p q) [
   | inr d ↦ absurd (let z : ⊥ = omega (arith, ones-pow p, more d) in z)
 ]
   where
-    in-pow : (r : ℕ) → digit (2 ^ p) r ≡ 1 → r ≡ p
-    in-pow r k = elim (cases-eq r p) [ inl e ↦ e | inr d ↦ omega (arith, digit-pow-other p r d) ]
-
     more : (p ≡ q → ⊥) → ones (2 ^ p) < ones n
-    more d = ones-more q w (2 ^ p) n (pow-lt (digit-place w n p h i)) h (λ r k. subst (λ (x : ℕ). digit n x ≡ 1) (sym (in-pow r k)) i) j (λ k. d (sym (in-pow q k)))
+    more d = ones-more q w (2 ^ p) n (pow-lt (digit-place w n p h i)) h (λ r k. subst (λ (x : ℕ). digit n x ≡ 1) (sym (holds-pow p r .0 k)) i) j (λ k. d (sym (holds-pow p q .0 k)))
 
 pub one-ones : (w n : ℕ) → n < 2 ^ w → ((p q : ℕ) → digit n p ≡ 1 → digit n q ≡ 1 → p ≡ q) → ones n ≤ 1
 one-ones w n h same = elim (some-digit w n h) [

@@ -1,6 +1,6 @@
 -- Sets of parts by their members, over any width. Assumes nothing.
-use mathlib.Core.Path.{_≡_, refl, sym, ap, _∙_, subst}
-use mathlib.Core.Logic.{_⊎_, inl, inr}
+use mathlib.Core.Path.{_≡_, refl, sym, ap, _∙_}
+use mathlib.Core.Logic.{_⊎_, inl, inr, ⊎-map}
 use Prim.Native.Nat.{ℕ, zero, suc, _-_, _*_, _/_, _%_, _^_, _≤_, _<_, max}
 use native.Mathlib.Omega.{arith}
 use native.Mathlib.Bridge.{le-prop}
@@ -10,15 +10,13 @@ use Rattle.sets.specs.Members.{Within}
 use Rattle.sets.specs.Numbers.{set-of}
 use native.Mathlib.Nat.{mod-eq-of-lt}
 use Rattle.sets.specs.declared.parts.Parts.{Parts}
-use lib.Bits.{bitAnd, bitOr, and-le-l}
-use lib.Bits.{and-mask}
+use lib.Bits.{bitAnd, bitOr, and-le-l, and-mask}
 use lib.Dec.{eqb}
 use mathlib.Core.Bool.{Bool, true, false}
 use Rattle.std.specs.Orderings.{When}
-use mathlib.Core.Logic.{⊎-map}
-use Rattle.std.proofs.shelf.Tests.{cases-eq, cases-lt, eqb-true, eqb-false, eq-eqb}
+use Rattle.std.proofs.shelf.Tests.{cases-lt, eqb-true, eqb-false, eq-eqb}
 use Rattle.std.proofs.shelf.Bits.{one-shl}
-use Rattle.sets.proofs.Digits.{digit, digit-and, digit-or, digit-not, digit-high, digit-pow, digit-pow-other, same-digits, digit-zero, some-digit}
+use Rattle.sets.proofs.Digits.{digit, digit-and, digit-or, digit-not, digit-high, holds-pow, same-digits, digit-zero, some-digit}
 
 -- sets of w parts with the same members are one number
 pub same-members : (w a b : ℕ) → a < 2 ^ w → b < 2 ^ w
@@ -54,9 +52,6 @@ or-cases x y h = go (x % 2) refl
 
 pub holds-or : (a b p : ℕ) → (digit (bitOr a b) p ≡ 1 → (digit a p ≡ 1) ⊎ (digit b p ≡ 1)) × ((digit a p ≡ 1) ⊎ (digit b p ≡ 1) → digit (bitOr a b) p ≡ 1)
 holds-or a b p = (λ h. or-cases (a / 2 ^ p) (b / 2 ^ p) (sym (digit-or a b p) ∙ h), λ h. omega (arith, digit-or a b p))
-
-pub holds-pow : (q p : ℕ) → (digit (2 ^ q) p ≡ 1 → p ≡ q) × (p ≡ q → digit (2 ^ q) p ≡ 1)
-holds-pow q p = (λ h. elim (cases-eq p q) [ inl e ↦ e | inr n ↦ omega (arith, digit-pow-other q p n) ], λ e. subst (λ (x : ℕ). digit (2 ^ q) x ≡ 1) (sym e) (digit-pow q))
 
 -- `a & !b`
 pub holds-minus : (w a b p : ℕ) → a < 2 ^ w → b < 2 ^ w

@@ -9,7 +9,7 @@ use crate::book::Book;
 use crate::held::Held;
 use crate::rule::Rule;
 
-// The most rules that are in force at once: those of a book, and 16 more.
+// The most rules that are in force at once: those of a book, and up to 16 that are added to them.
 pub(crate) const MOST_IN_FORCE: usize = 256;
 
 pub(crate) type InForce = Held<Rule, MOST_IN_FORCE>;
