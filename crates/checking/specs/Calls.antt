@@ -1,5 +1,5 @@
 -- Own rules and wishes, read off a list of calls alone. Assumes nothing.
-use Rattle.std.specs.Prelude.{◌≡◌, ℕ, ◌+◌, ◌≤◌, cond, ◌↔◌, List, [], ◌∷◌, ◌++◌, length, Some, None, fold, Option, ◌==◌, ◌≢◌, nat_lt}
+use Rattle.std.specs.Prelude.{◌≡◌, ℕ, ◌≤◌, cond, ◌↔◌, List, [], ◌∷◌, ◌++◌, length, Some, None, fold, Option, ◌==◌, ◌≢◌, nat_lt}
 use Rattle.std.specs.List.{slice_get}
 use Rattle.sets.specs.Width.{how_many}
 use Rattle.lists.specs.Held.{without, MovedDown}

@@ -82,9 +82,9 @@ pub(crate) fn judge_rules(
 /// Judges an outfit, given by its number, by the rules of a book. Where it is valid, its justification is written at the front of the
 /// buffer, and the answer is the number of its parts; on a refusal the buffer is as it was.
 pub fn judge<B: Book>(book: &B, outfit: Bits, buffer: &mut [u8]) -> Result<usize, Refusal>
-    ensures verdict { Verdict (meaning book.now).rules (set_of outfit) buffer.old buffer.new result }
-    ensures valid { Decides (is_ok result) (Passing (meaning book.now).rules (set_of outfit) (length buffer.old)) }
-    ensures rounds { Decides (is_ok result) (PassingByRounds (meaning book.now).rules (set_of outfit) (length buffer.old)) }
+    ensures verdict { Verdict (B.meaning book.now).rules (set_of outfit) buffer.old buffer.new result }
+    ensures valid { Decides (is_ok result) (Passing (B.meaning book.now).rules (set_of outfit) (length buffer.old)) }
+    ensures rounds { Decides (is_ok result) (PassingByRounds (B.meaning book.now).rules (set_of outfit) (length buffer.old)) }
     ensures laws { Laws }
 {
     let rules = in_force(book);

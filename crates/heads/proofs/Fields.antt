@@ -1,5 +1,5 @@
 -- The patterns of heads are within the range. Assumes nothing.
-use Rattle.std.proofs.Common.{◌≡◌, ℕ, zero, suc, ◌+◌, ◌-◌, ◌*◌, ◌/◌, ◌%◌, ◌^◌, ◌<◌, ◌≤◌, Bool, true, false, cond, not, T, eqb, ltb, leb, sym, ap, subst, inl, inr, true≢false, le_trans, le_of_eq, le_refl, mul-le-mul_right, mod-lt, mod-eq_of_lt, mul-le-mul, eq-or-lt_of_le, div-add-mod', mul_right_comm, le_of_mul-le-mul_right, arith, lit≤, le→leb, eqb→eq, ltb→lt, leb→le, pow_pos, pow_mono}
+use Rattle.std.proofs.Common.{◌≡◌, ℕ, zero, suc, ◌+◌, ◌*◌, ◌/◌, ◌%◌, ◌^◌, ◌<◌, ◌≤◌, Bool, true, false, cond, not, T, eqb, ltb, leb, sym, ap, subst, inl, inr, true≢false, le_trans, le_of_eq, le_refl, mul-le-mul_right, mod-lt, mod-eq_of_lt, mul-le-mul, eq-or-lt_of_le, div-add-mod', mul_right_comm, le_of_mul-le-mul_right, arith, lit≤, le→leb, eqb→eq, ltb→lt, leb→le, pow_pos, pow_mono}
 use lib.Ieee.{Float, nan, inf, fin, binary32, of_bits, of_fields, nan_bits, up, down, odd}
 use lib.Ieee.Exact.{HasValue, odd_sign}
 use lib.Ieee.Bits.{nan_bits_above, cond_no, is_false}

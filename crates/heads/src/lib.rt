@@ -1,2 +1,4 @@
 // Heads of water: 0 to 100 metres, compared as floats.
+#![tactic(auto)]
+
 pub mod head;

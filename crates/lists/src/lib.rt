@@ -1,2 +1,4 @@
 // Short lists held in place, so that no step on them asks for memory.
+#![tactic(auto)]
+
 pub mod held;

@@ -1,5 +1,5 @@
 -- Sheets of cards, one for each part, as measures. Assumes nothing.
-use Rattle.std.specs.Prelude.{◌≡◌, ℕ, ◌+◌, ◌-◌, ◌^◌, min, Bool, true, ◌⊎◌, Some, None, Option, from_bits}
+use Rattle.std.specs.Prelude.{◌≡◌, ℕ, ◌+◌, ◌-◌, ◌^◌, min, leb, Bool, true, ◌⊎◌, Some, None, Option, from_bits}
 use Rattle.std.proofs.Common.{inl, inr, arith}
 use Rattle.std.specs.Float.{binary32}
 use Rattle.std.specs.Option.{option_map}

@@ -1,4 +1,6 @@
 // Measures: how outfits are valued, and how values compare.
+#![tactic(auto)]
+
 pub mod head_sheet;
 pub mod measure;
 pub mod pence;

@@ -9,8 +9,8 @@ use std::cmp::Ordering;
 
 /// The value of an outfit: the starting value, extended by its parts in ascending number.
 pub fn value_of<M: Measure>(measure: &M, outfit: Parts) -> M::Value
-    ensures value { result ≡ worth (scale measure.now) outfit }
-    ensures law { ValueLaw (scale measure.now) }
+    ensures value { result ≡ worth (M.scale measure.now) outfit }
+    ensures law { ValueLaw (M.scale measure.now) }
 {
     let mut value = measure.start();
     for part in 0..PARTS as u8 {
@@ -23,7 +23,7 @@ pub fn value_of<M: Measure>(measure: &M, outfit: Parts) -> M::Value
 
 /// How two values compare: equal where each is at most the other.
 pub fn compare<M: Measure>(measure: &M, a: &M::Value, b: &M::Value) -> Ordering
-    ensures { Ranks (scale measure.now) a.now b.now result }
+    ensures { Ranks (M.scale measure.now) a.now b.now result }
 {
     if !measure.at_most(a, b) {
         return Ordering::Greater;

@@ -1,4 +1,6 @@
 // Why a call is refused: every case that there is, with its number and its place.
+#![tactic(auto)]
+
 ghost use Rattle.std.specs.Prelude.{◌≡◌};
 ghost use Rattle.refusals.specs.Refusals.{numbered, ToldApart};
 

@@ -14,8 +14,8 @@ pub(crate) type InForce = Held<Rule, MOST_IN_FORCE>;
 
 // Walks the book until it answers none.
 pub(crate) fn append<B: Book>(book: &B, rules: &mut InForce)
-    requires { length (held rules.old) + length (meaning book.now).rules ≤ most_in_force }
-    ensures { held rules.new ≡ held rules.old ++ (meaning book.now).rules }
+    requires { length (held rules.old) + length (B.meaning book.now).rules ≤ most_in_force }
+    ensures { held rules.new ≡ held rules.old ++ (B.meaning book.now).rules }
 {
     let mut place = 0;
     while let Some(rule) = book.rule(place) {
@@ -26,7 +26,7 @@ pub(crate) fn append<B: Book>(book: &B, rules: &mut InForce)
 
 // The rules of a book.
 pub(crate) fn in_force<B: Book>(book: &B) -> InForce
-    ensures { held result ≡ (meaning book.now).rules }
+    ensures { held result ≡ (B.meaning book.now).rules }
 {
     let mut rules = Held::none(Rule::blank());
     append(book, &mut rules);
@@ -35,8 +35,8 @@ pub(crate) fn in_force<B: Book>(book: &B) -> InForce
 
 // The rules of one book, and then those of another.
 pub(crate) fn both<A: Book, C: Book>(first: &A, second: &C) -> InForce
-    requires { length (A.Book.meaning first.now).rules + length (C.Book.meaning second.now).rules ≤ most_in_force }
-    ensures { held result ≡ (A.Book.meaning first.now).rules ++ (C.Book.meaning second.now).rules }
+    requires { length (A.meaning first.now).rules + length (C.meaning second.now).rules ≤ most_in_force }
+    ensures { held result ≡ (A.meaning first.now).rules ++ (C.meaning second.now).rules }
 {
     let mut rules = in_force(first);
     append(second, &mut rules);

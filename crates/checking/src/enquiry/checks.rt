@@ -43,7 +43,7 @@ impl<B: Book, M: Measure> Enquiry<B, M> {
     /// Checks an outfit, given by its number. Where it is valid by the rules in force and meets the wishes, its justification is written at
     /// the front of the buffer, and the answer is the number of its parts; on a refusal the buffer is as it was.
     pub fn check(&self, outfit: Bits, buffer: &mut [u8]) -> Result<usize, Refusal>
-        ensures answer { Check (meaning self.now.book).rules (state_of self.now) (set_of outfit) buffer.old buffer.new result }
+        ensures answer { Check (B.meaning self.now.book).rules (state_of self.now) (set_of outfit) buffer.old buffer.new result }
         ensures laws { Laws }
     {
         let rules = both(&self.book, &self.own);

@@ -11,11 +11,11 @@ returns-in-Some c = c.in-Some.ensures c.args.room c.if-room-lt-ROOM.false
 
 pub returns-in-Some-lowest : goal.returns-in-Some-lowest
 returns-in-Some-lowest c =
-    roundless c.if-room-lt-ROOM.false c.in-default.ensures c.in-Some-lowest.part
+    roundless c.if-room-lt-ROOM.false c.in_default.ensures c.in-Some-lowest.part
     (lowest_roundless c.args.rules.now c.args.outfit c.derive-derivation.result c.reached.result c.minus-roundless.result c.reached.ensures c.derive-derivation.ensures
     c.minus-roundless.ensures c.in-Some-lowest.part c.in-Some-lowest.ensures) refl
 
 pub returns-in-None : goal.returns-in-None
 returns-in-None c =
     all_derived c.args.rules.now c.args.outfit c.derive-derivation.result c.reached.result c.minus-roundless.result c.reached.ensures c.derive-derivation.ensures
-    c.minus-roundless.ensures c.args.room c.if-room-lt-ROOM.false c.in-default.ensures c.in-None.ensures
+    c.minus-roundless.ensures c.args.room c.if-room-lt-ROOM.false c.in_default.ensures c.in-None.ensures

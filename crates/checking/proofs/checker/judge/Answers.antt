@@ -8,15 +8,15 @@ use Rattle.checking.proofs.Faults.{passes, passes_rounds}
 use Rattle.checking.proofs.Objections.{laws}
 use Rattle.checking.proofs.checker.judge.Goals as goal
 
-pub judge-rules-requires : goal.judge-rules-requires
-judge-rules-requires g c = omega (arith, ap length c.items.ensures, held_few c.in-force-rules.result)
+pub judge_rules-requires : goal.judge_rules-requires
+judge_rules-requires g c = omega (arith, ap length c.items.ensures, held_few c.in_force-rules.result)
 
 pub returns : goal.returns
 returns g c =
     let rules = (g.B.Book.meaning c.args.book.now).rules in
     let old = c.args.buffer.now in
-    let new = c.judge-rules.new.buffer in
-    let r = c.judge-rules.result in
-    let v = subst (λ (xs : List Rule). Verdict xs (set_of c.args.outfit) old new r) (c.items.ensures ∙ c.in-force-rules.ensures)
-    (subst (λ (s : Parts). Verdict c.items.result.now s old new r) c.from-bits.ensures.value c.judge-rules.ensures) in
+    let new = c.judge_rules.new.buffer in
+    let r = c.judge_rules.result in
+    let v = subst (λ (xs : List Rule). Verdict xs (set_of c.args.outfit) old new r) (c.items.ensures ∙ c.in_force-rules.ensures)
+    (subst (λ (s : Parts). Verdict c.items.result.now s old new r) c.from_bits.ensures.value c.judge_rules.ensures) in
     record { verdict = v; valid = passes rules (set_of c.args.outfit) old new r v; rounds = passes_rounds rules (set_of c.args.outfit) old new r v; laws = laws }

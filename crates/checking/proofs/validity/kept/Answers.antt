@@ -7,7 +7,7 @@ pub returns-else-rule-ne2 : goal.returns-else-rule-ne2
 returns-else-rule-ne2 c =
     let chosen = c.common-chosen.result in
     let is = c.common-chosen.ensures in
-    let some = c.if-is-none.ensures in (
+    let some = c.if-is_none.ensures in (
       λ t a. (
         (some.0, (is some.0).0 some.1),
         λ k p q x y. size_one chosen (omega (arith, c.count.ensures.value, eqb-true c.count.result 1 t)) p q ((is p).1 x) ((is q).1 y),

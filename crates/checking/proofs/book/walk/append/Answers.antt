@@ -33,4 +33,4 @@ loop-rule-preserved g c =
 pub returns : goal.returns
 returns g c =
     let all = (g.B.Book.meaning c.args.book.now).rules in
-    c.loop-rule.invariant.0 ∙ ap (λ t. held c.args.rules.now ++ t) (take_all c.loop-rule.place all (none_past all c.loop-rule.place (sym {b = slice_get all c.loop-rule.place} c.in-default.ensures)))
+    c.loop-rule.invariant.0 ∙ ap (λ t. held c.args.rules.now ++ t) (take_all c.loop-rule.place all (none_past all c.loop-rule.place (sym {b = slice_get all c.loop-rule.place} c.in_default.ensures)))

@@ -1,11 +1,10 @@
 use Rattle.checking.proofs.Rows.{add_reached, add_entries, add_counted}
 use Rattle.checking.proofs.justification.Derivation.add.Goals as goal
 
-pub invariant-of-self : goal.invariant-of-self
-invariant-of-self c = (
-  add_counted c.args.self.now c.args.entry c.with-self.result c.push.new.self c.push.result c.requires.known c.requires.new c.with-self.ensures c.push.ensures,
-  tt,
-)
+pub invariant_of-self : goal.invariant_of-self
+invariant_of-self c = record {
+  counted = add_counted c.args.self.now c.args.entry c.with-self.result c.push.new.self c.push.result c.requires.known c.requires.new c.with-self.ensures c.push.ensures;
+}
 
 pub returns : goal.returns
 returns c = record {

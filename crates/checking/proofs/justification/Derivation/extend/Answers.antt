@@ -26,4 +26,4 @@ parts-preserved c =
 
 pub returns : goal.returns
 returns c =
-    extending_all c.args.round c.args.lowest.now c.args.new c.args.self.now c.parts.rest c.parts.self c.parts.invariant c.in-default.ensures
+    extending_all c.args.round c.args.lowest.now c.args.new c.args.self.now c.parts.rest c.parts.self c.parts.invariant c.in_default.ensures

@@ -18,4 +18,4 @@ parts-preserved c =
     (omega (arith, c.requires, c.parts.auto.lowest)) c.in-Some.ensures.0 c.without-rest.ensures c.parts.invariant
 
 pub returns : goal.returns
-returns c = noting_all c.args.parts c.args.rule c.args.lowest.now c.parts.rest c.parts.lowest c.in-default.ensures c.parts.invariant
+returns c = noting_all c.args.parts c.args.rule c.args.lowest.now c.parts.rest c.parts.lowest c.in_default.ensures c.parts.invariant

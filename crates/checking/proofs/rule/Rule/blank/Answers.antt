@@ -2,7 +2,7 @@ use Rattle.std.proofs.Common.{arith, lit≤}
 use Rattle.sets.proofs.Counts.{one_size}
 use Rattle.checking.proofs.rule.Rule.blank.Goals as goal
 
-pub invariant-of-result : goal.invariant-of-result
-invariant-of-result c =
+pub invariant_of-result : goal.invariant_of-result
+invariant_of-result c =
     let none = c.none-none.ensures in
-    ((lit≤ tt, λ e. one_size c.none-none.result (λ p q x y. absurd (none p x)), λ l. absurd (let z : ⊥ = omega arith in z)), tt)
+    record { suits = (lit≤ tt, λ e. one_size c.none-none.result (λ p q x y. absurd (none p x)), λ l. absurd (let z : ⊥ = omega arith in z)) }

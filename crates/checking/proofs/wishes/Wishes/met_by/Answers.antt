@@ -18,5 +18,5 @@ returns-in-Some-lowest c =
     let told = wishing w.wanted w.barred w.apart in
     let is = c.common.ensures in
     let part = c.in-Some-lowest.part in
-    present (λ q h. c.in-default.ensures q ((c.minus.ensures q).1 ((told.wanting q).1 h.0, h.1))) part
+    present (λ q h. c.in_default.ensures q ((c.minus.ensures q).1 ((told.wanting q).1 h.0, h.1))) part
     (lowest_like (Has c.common.result) (Present (wish_of w) c.args.outfit) (λ p h. ((told.barring p).0 ((is p).0 h).0, ((is p).0 h).1)) (λ p h. (is p).1 ((told.barring p).1 h.0, h.1)) part c.in-Some-lowest.ensures) refl

@@ -10,5 +10,5 @@ use Rattle.measures.proofs.head_sheet.HeadSheet.set.Goals as goal
 pub returns : goal.returns
 returns c =
     let whole : Sheet Head → HeadSheet = λ s. record { sheet = s } in
-    set_by (λ s. s.sheet) largest 71 (λ h pattern. h.metres ≡ of_bits binary32 pattern) c.args.part c.args.pattern _ _ _ _ c.from-pattern.result (ap whole) refl
-    c.from-pattern.ensures c.write.ensures
+    set_by (λ s. s.sheet) largest 71 (λ h pattern. h.metres ≡ of_bits binary32 pattern) c.args.part c.args.pattern _ _ _ _ c.from_pattern.result (ap whole) refl
+    c.from_pattern.ensures c.write.ensures

@@ -8,8 +8,8 @@ use Rattle.sets.proofs.parts.Parts.with.Goals as goal
 pub returns-then-part-ge-PARTS : goal.returns-then-part-ge-PARTS
 returns-then-part-ge-PARTS c p = (λ h. inl h, λ t. elim t [ inl h ↦ h | inr e ↦ absurd (let z : ⊥ = omega (arith, e.0, e.1) in z) ])
 
-pub invariant-of-result : goal.invariant-of-result
-invariant-of-result c = (or_lt how_many c.args.self.bits _ c.args.self.small (mod-lt (1 * 2 ^ c.args.part) (pow_pos how_many)), tt)
+pub invariant_of-result : goal.invariant_of-result
+invariant_of-result c = record { small = or_lt how_many c.args.self.bits _ c.args.self.small (mod-lt (1 * 2 ^ c.args.part) (pow_pos how_many)) }
 
 pub returns : goal.returns
 returns c p =
