@@ -9,7 +9,7 @@ mod tests {
     use checking::book::typed::TypedBook;
     use checking::book::{Book, MOST_RULES};
     use checking::checker::{ROOM, judge};
-    use checking::refusal::{Refusal, RefusalDebug, RefusalPartialEq};
+    use checking::refusal::Refusal;
     use checking::rule::Rule;
     use sets::parts::{Bits, PARTS};
     use std::process::Abort;
