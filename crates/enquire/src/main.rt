@@ -1,5 +1,7 @@
 // An enquiry about a small tide mill: makes a list of calls on it and prints each with its answer, then what the enquiry holds; and the same
 // list made at once on an enquiry by another measure.
+#![tactic(auto)]
+
 use crate::script::{BRAKED, COUNT, calls};
 use checking::book::Book;
 use checking::book::typed::TypedBook;

@@ -1,4 +1,6 @@
 // Judges three outfits of a small tide mill, and prints for each the verdict and, where it is valid, each part's name, round and rule.
+#![tactic(auto)]
+
 use checking::book::typed::TypedBook;
 use checking::checker::{ROOM, judge};
 use checking::refusal::Refusal;

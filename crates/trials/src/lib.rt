@@ -1,4 +1,6 @@
 // Examples for rules, books and the judge; those for enquiries and sheets stand in modules of their own.
+#![tactic(auto)]
+
 #[cfg(test)]
 mod enquiries;
 #[cfg(test)]
