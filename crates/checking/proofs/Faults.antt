@@ -7,11 +7,11 @@ use Rattle.sets.specs.Counting.{size}
 use Rattle.sets.proofs.Sets.{same_parts}
 use Rattle.sets.proofs.Told.{told_has, told_both, told_not, known, collect, some_or_none}
 use Rattle.checking.specs.declared.justification.Derivation.{Derivation}
-use Rattle.refusals.specs.declared.Refusal.{Refusal}
+use Rattle.checking.specs.declared.refusal.Refusal.{Refusal}
 use Rattle.checking.specs.declared.rule.Rule.{Rule}
 use Rattle.checking.specs.Sizes.{least_room}
 use Rattle.lists.specs.Held.{held}
-use Rattle.refusals.specs.Refusals.{Code, numbered}
+use Rattle.checking.specs.Refusals.{Code, numbered}
 use Rattle.checking.specs.Validity.{Chosen, Kept, Keeps}
 use Rattle.checking.specs.Justification.{Written, bytes, fronted}
 use Rattle.checking.specs.Derivations.{Derived, Passed}

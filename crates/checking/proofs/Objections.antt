@@ -1,20 +1,17 @@
 -- From what was found to the answer of a check, and that there is one answer. Assumes nothing.
 use Rattle.std.proofs.Common.{◌≡◌, ℕ, List, length, is_ok, Ok, Err, Decides, Result, sym, refl, ap, ◌∙◌, subst}
-use Rattle.std.proofs.lemmas.Option.{slice_get_past}
 use Rattle.std.proofs.lemmas.Bool.{false≢true}
 use Rattle.sets.specs.declared.parts.Parts.{Parts}
-use Rattle.lists.proofs.Nths.{none_past}
 use Rattle.refusals.specs.declared.Refusal.{Refusal}
 use Rattle.refusals.specs.Refusals.{Code, numbered}
 use Rattle.refusals.proofs.Telling.{told_apart}
 use Rattle.checking.specs.declared.rule.Rule.{Rule}
 use Rattle.checking.specs.Calls.{Wish, State}
 use Rattle.checking.specs.Checks.{Missing, Present, missing, present, MeetsWishes, Unmet, rules_in_force, Objection, by_rules, by_wishes, Checked, Passes, PassesByRounds, Check}
-use Rattle.checking.specs.Laws.{Laws}
 use Rattle.checking.specs.Verdicts.{Passing}
-use Rattle.checking.proofs.Layers.{first_round_law, round_law, valid_by_rounds}
+use Rattle.checking.proofs.Layers.{valid_by_rounds}
 use Rattle.checking.proofs.Faults.{fault_invalid}
-use Rattle.checking.proofs.Single.{one_lowest, one_fault, one_written, one_justification, one_verdict}
+use Rattle.checking.proofs.Single.{one_lowest, one_fault, one_written}
 
 unmet_not : (wish : ℕ → Wish) (c : Parts) (code : Code) → Unmet wish c code → MeetsWishes wish c → ⊥
 unmet_not wish c code (missing p l e) m = l.0.1 (m.0 p l.0.0)
@@ -42,7 +39,7 @@ module _ (book : List Rule) (s : State) (c : Parts) where
   refused_fails : (room : ℕ) (e : Refusal) → Objection (rules_in_force book s) s.wish c room (numbered e) → Passes book s c room → ⊥
   refused_fails room e o v = objection_fails (rules_in_force book s) s.wish c room (numbered e) o (v.0, v.1.0) v.1.1
 
-  one_check : (old new other : List ℕ) (r t : Result ℕ Refusal) → Checked book s c old new r → Checked book s c old other t → (r ≡ t) × (new ≡ other)
+  pub one_check : (old new other : List ℕ) (r t : Result ℕ Refusal) → Checked book s c old new r → Checked book s c old other t → (r ≡ t) × (new ≡ other)
   one_check old new other (Ok m) (Ok n) a b = let w = one_written (rules_in_force book s) c m n old new other a.1 b.1 in (ap Ok w.0, w.1)
   one_check old new other (Ok m) (Err f) a b = absurd (refused_fails (length old) f b.0 a.0)
   one_check old new other (Err e) (Ok n) a b = absurd (refused_fails (length old) e a.0 b.0)
@@ -64,14 +61,3 @@ module _ (book : List Rule) (s : State) (c : Parts) where
   -- a refusal that is handed on, with the buffer as it was
   pub check_refused : (old : List ℕ) (r : Result ℕ Refusal) (e : Refusal) → r ≡ Err e → Objection (rules_in_force book s) s.wish c (length old) (numbered e) → Check book s c old old r
   check_refused old r e is o = check old old r (subst (λ (x : Result ℕ Refusal). Checked book s c old old x) (sym is) (o, refl))
-
-pub laws : Laws
-laws = record {
-  ends = λ rules place. (none_past rules place, slice_get_past rules place);
-  first_round = first_round_law;
-  round = round_law;
-  valid_by_rounds = valid_by_rounds;
-  one_justification = one_justification;
-  one_verdict = one_verdict;
-  one_check = one_check;
-}

@@ -1,19 +1,23 @@
 -- The reasons of a refusal exclude one another, and an outfit has one justification, so there is one answer. Assumes nothing.
-use Rattle.std.proofs.Common.{◌≡◌, ℕ, List, length, Some, Ok, Err, Result, sym, ap, ◌∙◌, subst, inl, inr, arith}
+use Rattle.std.proofs.Common.{◌≡◌, ℕ, cond, eqb, List, length, Some, Ok, Err, Result, sym, refl, ap, ◌∙◌, subst, inl, inr, arith}
 use Rattle.std.specs.List.{slice_get}
+use Rattle.std.proofs.lemmas.Option.{slice_get_past}
 use Rattle.std.proofs.lemmas.Bool.{cases_order}
 use Rattle.sets.specs.declared.parts.Parts.{Parts}
 use Rattle.sets.specs.Members.{Lowest}
 use Rattle.checking.specs.declared.justification.Entry.{Entry}
-use Rattle.refusals.specs.declared.Refusal.{Refusal}
+use Rattle.checking.specs.declared.refusal.Refusal.{Refusal}
+use Rattle.checking.specs.declared.refusal.Refusal.TheVariants.{UnfitKind, BookFull, ShortBuffer, NoneChosen, SeveralChosen, Incompatible, NoRound}
 use Rattle.checking.specs.declared.rule.Rule.{Rule}
-use Rattle.refusals.specs.Refusals.{Code, numbered}
-use Rattle.refusals.proofs.Telling.{told_apart}
+use Rattle.checking.specs.Refusals.{Code, numbered, ToldApart}
 use Rattle.checking.specs.Rounds.{Brings, Round, Lower}
 use Rattle.checking.specs.Justification.{Right, Before, Justification, Written, bytes, fronted}
 use Rattle.checking.specs.Verdicts.{Broken, Blame, none_chosen, several_chosen, incompatible, Roundless, Fault, short, broken, roundless, Verdict}
+use Rattle.checking.specs.Laws.{Laws}
+use Rattle.lists.proofs.Nths.{none_past}
 use Rattle.lists.proofs.Sorting.{one_list}
 use Rattle.checking.proofs.Reduct.{one_round}
+use Rattle.checking.proofs.Layers.{first_round_law, round_law, valid_by_rounds}
 use Rattle.checking.proofs.Faults.{fault_invalid}
 
 before_asym : (a b : Entry) → Before a b → Before b a → ⊥
@@ -21,6 +25,26 @@ before_asym a b (inl l) (inl m) = omega arith
 before_asym a b (inl l) (inr m) = omega (arith, m.0)
 before_asym a b (inr l) (inl m) = omega (arith, l.0)
 before_asym a b (inr l) (inr m) = omega (arith, l.1, m.1)
+
+-- a refusal by its number and place
+refusal_of : Code → Refusal
+refusal_of code =
+    let n = code.0 in
+    let p = code.1 in
+    cond (eqb n 21) UnfitKind (cond (eqb n 22) (BookFull p) (cond (eqb n 51) ShortBuffer (cond (eqb n 52) (NoneChosen p) (cond (eqb n 53) (SeveralChosen p) (cond (eqb n 54) (Incompatible p) (NoRound p))))))
+
+pub told_apart : ToldApart
+unfolding refusal_of
+told_apart e f same = sym (back e) ∙ ap refusal_of same ∙ back f
+  where
+    back : (e : Refusal) → refusal_of (numbered e) ≡ e
+    back UnfitKind = refl
+    back (BookFull length) = refl
+    back ShortBuffer = refl
+    back (NoneChosen rule) = refl
+    back (SeveralChosen rule) = refl
+    back (Incompatible rule) = refl
+    back (NoRound part) = refl
 
 pub one_lowest : (P : ℕ → Type 0) (p q : ℕ) → Lowest P p → Lowest P q → p ≡ q
 one_lowest P p q a b = elim (cases_order p q) [
@@ -92,3 +116,13 @@ module _ (rules : List Rule) (c : Parts) where
   one_verdict old new other (Ok m) (Err f) a b = absurd (fault_invalid rules c (length old) (numbered f) b.0 a.0)
   one_verdict old new other (Err e) (Ok n) a b = absurd (fault_invalid rules c (length old) (numbered e) a.0 b.0)
   one_verdict old new other (Err e) (Err f) a b = (ap Err (told_apart e f (one_fault (length old) (numbered e) (numbered f) a.0 b.0)), a.1 ∙ sym b.1)
+
+pub laws : Laws
+laws = record {
+  ends = λ rules place. (none_past rules place, slice_get_past rules place);
+  first_round = first_round_law;
+  round = round_law;
+  valid_by_rounds = valid_by_rounds;
+  one_justification = one_justification;
+  one_verdict = one_verdict;
+}

@@ -1,11 +1,10 @@
--- What the definitions are for: the laws that the judge and the check stand on. Assumes nothing.
+-- What the definitions are for: the laws that the judge stands on. Assumes nothing.
 use Rattle.std.specs.Prelude.{◌≡◌, ℕ, ◌≤◌, ◌↔◌, List, length, None}
 use Rattle.std.specs.List.{slice_get}
 use Rattle.checking.specs.declared.rule.Rule.{Rule}
 use Rattle.checking.specs.Rounds.{FirstRoundLaw, RoundLaw, ValidByRounds}
 use Rattle.checking.specs.Justification.{OneJustification}
 use Rattle.checking.specs.Verdicts.{OneVerdict}
-use Rattle.checking.specs.Checks.{OneCheck}
 
 -- a book has no rule at a place exactly when its list is no longer than that
 abbrev pub Ends : Type 0
@@ -18,4 +17,3 @@ pub record Laws : Type 0 where
   pub valid_by_rounds : ValidByRounds
   pub one_justification : OneJustification
   pub one_verdict : OneVerdict
-  pub one_check : OneCheck

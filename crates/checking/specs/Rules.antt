@@ -1,10 +1,10 @@
 -- Making a rule. Assumes nothing.
 use Rattle.std.specs.Prelude.{◌≡◌, ℕ, Result, MatchResult}
 use Rattle.sets.specs.declared.parts.Parts.{Parts}
-use Rattle.refusals.specs.declared.Refusal.{Refusal}
+use Rattle.checking.specs.declared.refusal.Refusal.{Refusal}
 use Rattle.checking.specs.declared.rule.Rule.{Rule}
 use Rattle.checking.specs.Kinds.{Suits}
-use Rattle.refusals.specs.Refusals.{numbered}
+use Rattle.checking.specs.Refusals.{numbered}
 
 -- the rule has just this kind and these sets
 pub record Of (k : ℕ) (h n a : Parts) (rule : Rule) : Type 0 where

@@ -3,10 +3,10 @@ use Rattle.std.specs.Prelude.{◌≡◌, ℕ, ◌<◌, ◌≤◌, List, length, 
 use Rattle.std.specs.List.{slice_get}
 use Rattle.sets.specs.declared.parts.Parts.{Parts}
 use Rattle.sets.specs.Members.{Has, Empty, Lowest}
-use Rattle.refusals.specs.declared.Refusal.{Refusal}
+use Rattle.checking.specs.declared.refusal.Refusal.{Refusal}
 use Rattle.checking.specs.declared.rule.Rule.{Rule}
 use Rattle.checking.specs.Sizes.{least_room}
-use Rattle.refusals.specs.Refusals.{Code, numbered}
+use Rattle.checking.specs.Refusals.{Code, numbered}
 use Rattle.checking.specs.Validity.{Chosen, Kept, Keeps, Valid}
 use Rattle.checking.specs.Rounds.{Round, Justified}
 use Rattle.checking.specs.Justification.{Written}

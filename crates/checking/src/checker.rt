@@ -2,7 +2,7 @@
 ghost use Rattle.std.specs.Prelude.{ℕ, ◌≤◌, length, is_ok, Decides, MatchOption, MatchResult};
 ghost use Rattle.sets.specs.Numbers.{set_of};
 ghost use Rattle.checking.specs.Sizes.{least_room, most_in_force};
-ghost use Rattle.refusals.specs.Refusals.{numbered};
+ghost use Rattle.checking.specs.Refusals.{numbered};
 ghost use Rattle.checking.specs.Validity.{Kept, Keeps};
 ghost use Rattle.checking.specs.Derivations.{Passed};
 ghost use Rattle.checking.specs.Verdicts.{Blame, Fault, Passing, PassingByRounds, Verdict};
@@ -12,9 +12,9 @@ use crate::book::Book;
 use crate::book::walk::in_force;
 use crate::justification::Derivation;
 use crate::justification::rounds::derive;
+use crate::refusal::Refusal;
 use crate::rule::Rule;
 use crate::validity::kept;
-use refusals::Refusal;
 use sets::parts::{Bits, PARTS, Parts};
 
 /// The least room of a buffer for a justification: three bytes for each part that there is.

@@ -10,4 +10,5 @@ pub mod justification;
 pub mod refusal;
 pub mod rule;
 pub mod validity;
+mod widening;
 mod wishes;

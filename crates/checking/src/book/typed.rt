@@ -3,9 +3,9 @@ ghost use Rattle.std.specs.Prelude.{◌≡◌, []};
 ghost use Rattle.checking.specs.Books.{typed, Entered};
 
 use crate::book::{Book, MOST_RULES};
+use crate::refusal::Refusal;
 use crate::rule::Rule;
 use lists::held::Held;
-use refusals::Refusal;
 
 /// A book in memory, which has room for all its rules from the start.
 #[derive(Drop)]

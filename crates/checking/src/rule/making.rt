@@ -2,8 +2,8 @@
 ghost use Rattle.sets.specs.Numbers.{set_of};
 ghost use Rattle.checking.specs.Rules.{Made};
 
+use crate::refusal::Refusal;
 use crate::rule::Rule;
-use refusals::Refusal;
 use sets::parts::{Bits, Parts};
 
 impl Rule {

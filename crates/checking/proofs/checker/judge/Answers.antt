@@ -5,7 +5,7 @@ use Rattle.checking.specs.declared.rule.Rule.{Rule}
 use Rattle.lists.specs.Held.{held_few}
 use Rattle.checking.specs.Verdicts.{Verdict}
 use Rattle.checking.proofs.Faults.{passes, passes_rounds}
-use Rattle.checking.proofs.Objections.{laws}
+use Rattle.checking.proofs.Single.{laws}
 use Rattle.checking.proofs.checker.judge.Goals as goal
 
 pub judge_rules-requires : goal.judge_rules-requires
