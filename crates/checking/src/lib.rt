@@ -1,5 +1,5 @@
-// Judging outfits: a library by itself, on which offering outfits can be built. Data flows through its modules in this order: rule, book,
-// refusal, validity, justification, checker, call, wishes, enquiry.
+// Judging outfits: a library by itself, on which offering outfits can be built. Data flows through its modules in this order: rule,
+// refusal, book, validity, justification, checker, widening, call, wishes, enquiry.
 #![tactic(auto)]
 
 pub mod book;

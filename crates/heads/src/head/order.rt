@@ -1,7 +1,7 @@
 // Heads by their bit patterns, and their order by float comparison.
 ghost use Rattle.std.specs.Prelude.{◌≡◌};
 ghost use Rattle.heads.specs.Patterns.{ByPattern};
-ghost use Rattle.heads.specs.Orders.{zero_head, at_most, larger as larger-of, Order};
+ghost use Rattle.heads.specs.Orders.{zero_head, at_most, larger as larger_of, Order};
 
 use crate::head::{Head, LARGEST};
 
@@ -43,7 +43,7 @@ impl Head {
 
     /// The larger of two: the other where they are equal.
     pub fn larger(self, other: Head) -> Head
-        ensures { result ≡ larger-of self other }
+        ensures { result ≡ larger_of self other }
     {
         if self.at_most(other) { other } else { self }
     }
