@@ -7,11 +7,14 @@ use Rattle.sets.specs.Counting.{size}
 use Rattle.sets.proofs.Sets.{same_parts}
 use Rattle.sets.proofs.Told.{told_has, told_both, told_not, known, collect, some_or_none}
 use Rattle.checking.specs.declared.justification.Derivation.{Derivation}
-use Rattle.checking.specs.declared.refusal.Refusal.{Refusal}
+use Rattle.refusals.specs.declared.Refusal.{Refusal}
+use Rattle.checking.specs.declared.rule.Kind.{Kind}
+use Rattle.checking.specs.declared.rule.Kind.TheVariants.{Plain, Choice, Exclusive}
 use Rattle.checking.specs.declared.rule.Rule.{Rule}
+use Rattle.checking.specs.Kinds.{number_of}
 use Rattle.checking.specs.Sizes.{least_room}
 use Rattle.lists.specs.Held.{held}
-use Rattle.checking.specs.Refusals.{Code, numbered}
+use Rattle.refusals.specs.Refusals.{Code, numbered}
 use Rattle.checking.specs.Validity.{Chosen, Kept, Keeps}
 use Rattle.checking.specs.Justification.{Written, bytes, fronted}
 use Rattle.checking.specs.Derivations.{Derived, Passed}
@@ -33,7 +36,7 @@ several r c unkept some = elim (some_or_none chosen.0) [
     others : (p : ℕ) → (s : Parts) × Holds s (λ q. Chosen r c q × (q ≡ p → ⊥))
     others p = collect (λ q. Chosen r c q × (q ≡ p → ⊥)) (λ q. told_both (told_both (told_has r.heads q) (told_has c q)) (told_not (cases_eq q p))) (λ q h. known c q h.0.1)
 
-    second : (p : ℕ) → Chosen r c p → r.kind ≡ 2 → HasSeveralChosen r c
+    second : (p : ℕ) → Chosen r c p → r.kind ≡ Exclusive → HasSeveralChosen r c
     second p h two = elim (some_or_none (others p).0) [
       | inl none ↦
           let only : (q : ℕ) → Chosen r c q → q ≡ p = λ q i. elim (cases_eq q p) [ inl e ↦ e | inr d ↦ absurd (none q (((others p).1 q).1 (i, d))) ] in
@@ -41,11 +44,17 @@ several r c unkept some = elim (some_or_none chosen.0) [
       | inr t ↦ (let q = ((others p).1 t.0).0 t.1 in (two, (p, t.0, h, q.0, λ e. q.1 (sym e))))
     ]
 
+    -- no rule of another kind asks for one head only
+    free : (k : Kind) → r.kind ≡ k → (k ≡ Exclusive → ⊥) → (p : ℕ) → Chosen r c p → HasSeveralChosen r c
+    free k is other p h = absurd (unkept (λ a. ((p, h), λ two. absurd (other (sym is ∙ two)))))
+
+    by_kind : (k : Kind) → r.kind ≡ k → (p : ℕ) → Chosen r c p → HasSeveralChosen r c
+    by_kind Plain is p h = free Plain is (λ e. omega (arith, ap number_of e)) p h
+    by_kind Choice is p h = free Choice is (λ e. omega (arith, ap number_of e)) p h
+    by_kind Exclusive is p h = second p h is
+
     first : (p : ℕ) → Chosen r c p → HasSeveralChosen r c
-    first p h = elim (cases_eq r.kind 2) [
-      | inl two ↦ second p h two
-      | inr other ↦ absurd (unkept (λ a. ((p, h), λ k. absurd (other k))))
-    ]
+    first = by_kind r.kind refl
 
 module _ (rules : List Rule) (c : Parts) (d : Derivation) (reached rest : Parts) (same : reached ≡ d.reached) (is : Derived rules c d)
     (minus : Holds rest (λ p. Has c p × (Has reached p → ⊥))) where
@@ -96,6 +105,10 @@ passes_rounds rules c old new r v =
     let p = passes rules c old new r v in
     let b = valid_by_rounds rules c in
     (λ t. let h = p.0 t in let k = b.0 h.1 in (h.0, k.0, k.1), λ h. p.1 (h.0, b.1 (h.1, h.2)))
+
+-- of equal rules and equal outfits the same holds
+pub moved : (P : List Rule → Parts → Type 0) (xs ys : List Rule) (a b : Parts) → xs ≡ ys → a ≡ b → P xs a → P ys b
+moved P xs ys a b e f h = subst (λ (x : Parts). P ys x) f (subst (λ (x : List Rule). P x a) e h)
 
 -- a refusal that is handed on, with the buffer as it was
 pub refused : (rules : List Rule) (c : Parts) (old : List ℕ) (r : Result ℕ Refusal) (e : Refusal) → r ≡ Err e → Fault rules c (length old) (numbered e) → Verdict rules c old old r

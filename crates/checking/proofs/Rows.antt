@@ -1,5 +1,5 @@
 -- The entries of one round, part by part. Assumes nothing.
-use Rattle.std.proofs.Common.{◌≡◌, ℕ, ◌+◌, ◌<◌, ◌≤◌, Bool, ◌⊎◌, List, [], ◌∷◌, ◌++◌, length, get_or, Some, sym, ap, ◌∙◌, subst, inl, inr, append_assoc, arith}
+use Rattle.std.proofs.Common.{◌≡◌, ℕ, ◌+◌, ◌<◌, ◌≤◌, ◌⊎◌, List, [], ◌∷◌, ◌++◌, length, get_or, Some, Result, sym, ap, ◌∙◌, subst, inl, inr, append_assoc, arith}
 use mathlib.Core.Logic.{⊎_map}
 use Rattle.std.specs.List.{slice_get}
 use Rattle.std.proofs.lemmas.List.{length_push, append-nil}
@@ -11,6 +11,7 @@ use Rattle.sets.specs.Counting.{size}
 use Rattle.sets.proofs.Counts.{counting}
 use Rattle.checking.specs.declared.justification.Derivation.{Derivation}
 use Rattle.checking.specs.declared.justification.Entry.{Entry}
+use Rattle.lists.specs.declared.held.Full.{Full}
 use Rattle.lists.specs.declared.held.Held.{Held}
 use Rattle.lists.specs.Held.{held, Pushed}
 use Rattle.lists.proofs.Holding.{pushed}
@@ -18,7 +19,7 @@ use Rattle.checking.specs.Derivations.{Rows, Added, Extended}
 use Rattle.lists.proofs.Nths.{nothing, nth_below, nth_front, nth_push, nth_last}
 
 -- one entry more, of a part that has none: there is room for it
-module _ (d : Derivation) (e : Entry) (with : Parts) (entries : Held Entry how_many) (r : Bool) (known : e.part < how_many) (new : Has d.reached e.part → ⊥)
+module _ (d : Derivation) (e : Entry) (with : Parts) (entries : Held Entry how_many) (r : Result (Unit {0}) Full) (known : e.part < how_many) (new : Has d.reached e.part → ⊥)
     (w : Holds with (λ p. Has d.reached p ⊎ ((p ≡ e.part) × (p < how_many)))) (put : Pushed e d.entries entries r) where
   pub add_reached : Holds with (λ p. Has d.reached p ⊎ (p ≡ e.part))
   add_reached p = (

@@ -1,15 +1,15 @@
 -- The reasons of a refusal exclude one another, and an outfit has one justification, so there is one answer. Assumes nothing.
-use Rattle.std.proofs.Common.{◌≡◌, ℕ, cond, eqb, List, length, Some, Ok, Err, Result, sym, refl, ap, ◌∙◌, subst, inl, inr, arith}
+use Rattle.std.proofs.Common.{◌≡◌, ℕ, List, length, Some, Ok, Err, Result, sym, ap, ◌∙◌, subst, inl, inr, arith}
 use Rattle.std.specs.List.{slice_get}
 use Rattle.std.proofs.lemmas.Option.{slice_get_past}
 use Rattle.std.proofs.lemmas.Bool.{cases_order}
 use Rattle.sets.specs.declared.parts.Parts.{Parts}
 use Rattle.sets.specs.Members.{Lowest}
 use Rattle.checking.specs.declared.justification.Entry.{Entry}
-use Rattle.checking.specs.declared.refusal.Refusal.{Refusal}
-use Rattle.checking.specs.declared.refusal.Refusal.TheVariants.{UnfitKind, BookFull, ShortBuffer, NoneChosen, SeveralChosen, Incompatible, NoRound}
+use Rattle.refusals.specs.declared.Refusal.{Refusal}
 use Rattle.checking.specs.declared.rule.Rule.{Rule}
-use Rattle.checking.specs.Refusals.{Code, numbered, ToldApart}
+use Rattle.refusals.specs.Refusals.{Code, numbered}
+use Rattle.refusals.proofs.Telling.{told_apart}
 use Rattle.checking.specs.Rounds.{Brings, Round, Lower}
 use Rattle.checking.specs.Justification.{Right, Before, Justification, Written, bytes, fronted}
 use Rattle.checking.specs.Verdicts.{Broken, Blame, none_chosen, several_chosen, incompatible, Roundless, Fault, short, broken, roundless, Verdict}
@@ -25,26 +25,6 @@ before_asym a b (inl l) (inl m) = omega arith
 before_asym a b (inl l) (inr m) = omega (arith, m.0)
 before_asym a b (inr l) (inl m) = omega (arith, l.0)
 before_asym a b (inr l) (inr m) = omega (arith, l.1, m.1)
-
--- a refusal by its number and place
-refusal_of : Code → Refusal
-refusal_of code =
-    let n = code.0 in
-    let p = code.1 in
-    cond (eqb n 21) UnfitKind (cond (eqb n 22) (BookFull p) (cond (eqb n 51) ShortBuffer (cond (eqb n 52) (NoneChosen p) (cond (eqb n 53) (SeveralChosen p) (cond (eqb n 54) (Incompatible p) (NoRound p))))))
-
-pub told_apart : ToldApart
-unfolding refusal_of
-told_apart e f same = sym (back e) ∙ ap refusal_of same ∙ back f
-  where
-    back : (e : Refusal) → refusal_of (numbered e) ≡ e
-    back UnfitKind = refl
-    back (BookFull length) = refl
-    back ShortBuffer = refl
-    back (NoneChosen rule) = refl
-    back (SeveralChosen rule) = refl
-    back (Incompatible rule) = refl
-    back (NoRound part) = refl
 
 pub one_lowest : (P : ℕ → Type 0) (p q : ℕ) → Lowest P p → Lowest P q → p ≡ q
 one_lowest P p q a b = elim (cases_order p q) [

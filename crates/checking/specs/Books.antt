@@ -2,12 +2,12 @@
 use Rattle.std.specs.Prelude.{◌≡◌, ◌<◌, ◌≤◌, [], ◌∷◌, ◌++◌, length, Ok, Result}
 use Rattle.std.proofs.Common.{arith}
 use Rattle.checking.specs.declared.book.typed.TypedBook.{TypedBook}
-use Rattle.checking.specs.declared.refusal.Refusal.{Refusal}
+use Rattle.refusals.specs.declared.Refusal.{Refusal}
+use Rattle.refusals.specs.Refusals.{Refused}
 use Rattle.checking.specs.declared.rule.Rule.{Rule}
 use Rattle.lists.specs.declared.held.Held.{Held}
 use Rattle.lists.specs.Held.{held, held_few}
 use Rattle.checking.specs.Meanings.{Meaning}
-use Rattle.checking.specs.Refusals.{Refused}
 use Rattle.checking.specs.Sizes.{most_rules, most_own}
 
 -- the rules that were entered

@@ -1,6 +1,5 @@
 pub mod Sizes
 pub mod Kinds
-pub mod Refusals
 pub mod Rules
 pub mod Meanings
 pub mod Books

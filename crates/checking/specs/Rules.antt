@@ -1,14 +1,14 @@
 -- Making a rule. Assumes nothing.
 use Rattle.std.specs.Prelude.{◌≡◌, ℕ, Result, MatchResult}
 use Rattle.sets.specs.declared.parts.Parts.{Parts}
-use Rattle.checking.specs.declared.refusal.Refusal.{Refusal}
+use Rattle.refusals.specs.declared.Refusal.{Refusal}
+use Rattle.refusals.specs.Refusals.{numbered}
 use Rattle.checking.specs.declared.rule.Rule.{Rule}
-use Rattle.checking.specs.Kinds.{Suits}
-use Rattle.checking.specs.Refusals.{numbered}
+use Rattle.checking.specs.Kinds.{number_of, Suits}
 
 -- the rule has just this kind and these sets
 pub record Of (k : ℕ) (h n a : Parts) (rule : Rule) : Type 0 where
-  pub kind : rule.kind ≡ k
+  pub kind : number_of rule.kind ≡ k
   pub heads : rule.heads ≡ h
   pub needs : rule.needs ≡ n
   pub absences : rule.absences ≡ a

@@ -3,6 +3,7 @@ use Rattle.std.specs.Prelude.{◌≡◌, ℕ, List, Some}
 use Rattle.std.specs.List.{slice_get}
 use Rattle.sets.specs.declared.parts.Parts.{Parts}
 use Rattle.sets.specs.Members.{Has, Within, Apart}
+use Rattle.checking.specs.declared.rule.Kind.TheVariants.{Exclusive}
 use Rattle.checking.specs.declared.rule.Rule.{Rule}
 
 -- a rule applies to an outfit that has all its needs and none of its absences
@@ -19,7 +20,7 @@ AtMostOne r outfit = (p q : ℕ) → Chosen r outfit p → Chosen r outfit q →
 
 -- a rule is kept when it does not apply, or a head is chosen, and only one if it is an exclusive choice
 abbrev pub Kept : Rule → Parts → Type 0
-Kept r outfit = Applies r outfit → ((p : ℕ) × Chosen r outfit p) × (r.kind ≡ 2 → AtMostOne r outfit)
+Kept r outfit = Applies r outfit → ((p : ℕ) × Chosen r outfit p) × (r.kind ≡ Exclusive → AtMostOne r outfit)
 
 -- every rule is kept
 abbrev pub Keeps : List Rule → Parts → Type 0

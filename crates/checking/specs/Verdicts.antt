@@ -3,10 +3,11 @@ use Rattle.std.specs.Prelude.{◌≡◌, ℕ, ◌<◌, ◌≤◌, List, length, 
 use Rattle.std.specs.List.{slice_get}
 use Rattle.sets.specs.declared.parts.Parts.{Parts}
 use Rattle.sets.specs.Members.{Has, Empty, Lowest}
-use Rattle.checking.specs.declared.refusal.Refusal.{Refusal}
+use Rattle.refusals.specs.declared.Refusal.{Refusal}
+use Rattle.refusals.specs.Refusals.{Code, numbered}
+use Rattle.checking.specs.declared.rule.Kind.TheVariants.{Exclusive}
 use Rattle.checking.specs.declared.rule.Rule.{Rule}
 use Rattle.checking.specs.Sizes.{least_room}
-use Rattle.checking.specs.Refusals.{Code, numbered}
 use Rattle.checking.specs.Validity.{Chosen, Kept, Keeps, Valid}
 use Rattle.checking.specs.Rounds.{Round, Justified}
 use Rattle.checking.specs.Justification.{Written}
@@ -21,7 +22,7 @@ HasNoneChosen r outfit = ((p : ℕ) × Has r.heads p) × ((p : ℕ) → Chosen r
 
 -- it is an exclusive choice, and several heads are chosen
 abbrev pub HasSeveralChosen : Rule → Parts → Type 0
-HasSeveralChosen r outfit = (r.kind ≡ 2) × ((p : ℕ) × (q : ℕ) × Chosen r outfit p × Chosen r outfit q × (p ≢ q))
+HasSeveralChosen r outfit = (r.kind ≡ Exclusive) × ((p : ℕ) × (q : ℕ) × Chosen r outfit p × Chosen r outfit q × (p ≢ q))
 
 -- what is wrong with rule i, as number and place
 pub data Blame (r : Rule) (outfit : Parts) (i : ℕ) (code : Code) : Type 0 where

@@ -10,7 +10,7 @@ pub(crate) mod rounds;
 pub(crate) mod writing;
 
 /// Why a part is in an outfit: the round in which it is derived, and the lowest rule that brings it from parts of lower rounds.
-#[derive(Clone, Copy)]
+#[derive(Clone, Copy, Default)]
 pub struct Entry {
     pub part: u8,
     pub round: u8,

@@ -2,9 +2,9 @@
 // list made at once on an enquiry by another measure.
 #![tactic(auto)]
 
+use crate::printing::Told;
 use crate::script::{BRAKED, COUNT, calls};
 use checking::book::Book;
-use checking::book::typed::TypedBook;
 use checking::call::Call;
 use checking::checker::ROOM;
 use checking::enquiry::{Enquiry, run};
@@ -12,11 +12,12 @@ use measures::head_sheet::HeadSheet;
 use measures::measure::Measure;
 use measures::price_sheet::PriceSheet;
 use measures::value::value_of;
-use refusals::Refusal;
+use mill::printing::Named;
+use mill::rules::book;
+use mill::sheets::{heads, prices};
 use sets::parts::{Bits, Parts};
 use std::io;
 
-mod mill;
 mod printing;
 mod script;
 
@@ -26,9 +27,10 @@ fn print_check<B: Book, M: Measure>(
     outfit: Bits,
     room: usize,
 ) -> io::Result<()> {
-    print!(rt; "check")?;
-    printing::parts(rt, Parts::from_bits(outfit))?;
-    println!(rt; " with {room} bytes")?;
+    println!(rt;
+        "check{} with {room} bytes",
+        Named(Parts::from_bits(outfit))
+    )?;
     let mut buffer = [0; ROOM];
     match enquiry.check(outfit, &mut buffer[0..room.min(ROOM)]) {
         Ok(parts) => printing::justification(rt, &buffer, parts),
@@ -44,8 +46,7 @@ fn make<B: Book, M: Measure>(
 ) -> io::Result<()> {
     match call {
         Call::Make(step) => {
-            printing::step(rt, step)?;
-            println!(rt; "")?;
+            println!(rt; "{}", Told(step))?;
             match enquiry.step(step) {
                 Ok(()) => println!(rt; "  done"),
                 Err(refusal) => printing::refusal(rt, refusal),
@@ -58,41 +59,17 @@ fn make<B: Book, M: Measure>(
 
 // What an enquiry holds besides its book and its measure.
 fn print_held<B: Book, M: Measure>(rt: &HostRuntime, enquiry: &Enquiry<B, M>) -> io::Result<()> {
-    let own = enquiry.own().len();
-    print!(rt; "own rules: {own}; wanted:")?;
-    printing::parts(rt, enquiry.wanted())?;
-    print!(rt; "; barred:")?;
-    printing::parts(rt, enquiry.barred())?;
-    println!(rt; "")
+    println!(rt;
+        "own rules: {}; wanted:{}; barred:{}",
+        enquiry.own().len(),
+        Named(enquiry.wanted()),
+        Named(enquiry.barred())
+    )
 }
 
-// All that the program works with.
-struct Site {
-    book: TypedBook,
-    same_book: TypedBook,
-    prices: PriceSheet,
-    heads: HeadSheet,
-    calls: [Call; COUNT],
-}
-
-fn gather() -> Result<Site, Refusal> {
-    Ok(Site {
-        book: mill::book()?,
-        same_book: mill::book()?,
-        prices: mill::prices()?,
-        heads: mill::heads()?,
-        calls: calls()?,
-    })
-}
-
-fn by_price(
-    rt: &HostRuntime,
-    book: TypedBook,
-    prices: PriceSheet,
-    calls: &[Call],
-) -> io::Result<()> {
+fn by_price(rt: &HostRuntime, calls: &[Call]) -> io::Result<()> {
     println!(rt; "by price")?;
-    let mut enquiry = Enquiry::open(book, prices);
+    let mut enquiry = Enquiry::open(book(), prices());
     for call in calls {
         make(rt, &mut enquiry, *call)?;
     }
@@ -101,9 +78,9 @@ fn by_price(
     println!(rt; "price {pence} pence")
 }
 
-fn by_head(rt: &HostRuntime, book: TypedBook, heads: HeadSheet, calls: &[Call]) -> io::Result<()> {
+fn by_head(rt: &HostRuntime, calls: &[Call]) -> io::Result<()> {
     println!(rt; "by head, all calls at once")?;
-    let enquiry = run(book, heads, calls);
+    let enquiry = run(book(), heads(), calls);
     print_held(rt, &enquiry)?;
     print_check(rt, &enquiry, BRAKED, ROOM)?;
     let metres = value_of(enquiry.measure(), Parts::from_bits(BRAKED)).metres();
@@ -111,16 +88,10 @@ fn by_head(rt: &HostRuntime, book: TypedBook, heads: HeadSheet, calls: &[Call]) 
 }
 
 fn main(rt: HostRuntime) -> io::Result<()> {
-    let Site {
-        book,
-        same_book,
-        prices,
-        heads,
-        calls,
-    } = match gather() {
-        Ok(site) => site,
+    let calls = match calls() {
+        Ok(calls) => calls,
         Err(refusal) => return printing::refusal(&rt, refusal),
     };
-    by_price(&rt, book, prices, &calls)?;
-    by_head(&rt, same_book, heads, &calls)
+    by_price(&rt, &calls)?;
+    by_head(&rt, &calls)
 }

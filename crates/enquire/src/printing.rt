@@ -1,71 +1,65 @@
-// What the program prints of calls, answers and enquiries.
-use crate::mill::{NAMED, name};
+// What the program prints of calls and answers.
 use checking::call::Step;
 use checking::rule::Rule;
+use mill::fittings::name;
+use mill::printing::{Lines, Named};
 use refusals::Refusal;
-use sets::parts::Parts;
-use std::io;
+use std::{fmt, io};
 
-pub(crate) fn parts(rt: &HostRuntime, parts: Parts) -> io::Result<()> {
-    for part in 0..NAMED {
-        if parts.has(part) {
-            let word = name(part);
-            print!(rt; " {word}")?;
-        }
+// A part by its number and its name.
+#[derive(Clone, Copy)]
+struct Numbered(u8);
+
+impl fmt::Display for Numbered {
+    fn fmt<W: fmt::Write>(&self, f: &mut fmt::Formatter<W>) -> fmt::Result {
+        write!(f, "{} {}", self.0, name(self.0))
     }
-    Ok(())
 }
 
-fn part(rt: &HostRuntime, part: u8) -> io::Result<()> {
-    let word = name(part);
-    print!(rt; "{part} {word}")
+// A rule by its kind, heads, needs and absences.
+#[derive(Clone, Copy)]
+struct Terms(Rule);
+
+impl fmt::Display for Terms {
+    fn fmt<W: fmt::Write>(&self, f: &mut fmt::Formatter<W>) -> fmt::Result {
+        let rule = self.0;
+        write!(
+            f,
+            "of kind {}, heads:{}, needs:{}, absences:{}",
+            u8::from(rule.kind),
+            Named(rule.heads),
+            Named(rule.needs),
+            Named(rule.absences)
+        )
+    }
 }
 
-// By kind, heads, needs and absences.
-fn rule(rt: &HostRuntime, rule: Rule) -> io::Result<()> {
-    let kind = rule.kind;
-    print!(rt; "of kind {kind}, heads:")?;
-    parts(rt, rule.heads)?;
-    print!(rt; ", needs:")?;
-    parts(rt, rule.needs)?;
-    print!(rt; ", absences:")?;
-    parts(rt, rule.absences)
-}
+// A step, told as it is called.
+#[derive(Clone, Copy)]
+pub(crate) struct Told(pub(crate) Step);
 
-pub(crate) fn step(rt: &HostRuntime, step: Step) -> io::Result<()> {
-    match step {
-        Step::Add(added) => {
-            print!(rt; "add a rule ")?;
-            rule(rt, added)
-        }
-        Step::Strike(place) => print!(rt; "strike {place}"),
-        Step::Want(wanted) => {
-            print!(rt; "want ")?;
-            part(rt, wanted)
-        }
-        Step::Bar(barred) => {
-            print!(rt; "bar ")?;
-            part(rt, barred)
-        }
-        Step::Release(released) => {
-            print!(rt; "release ")?;
-            part(rt, released)
+impl fmt::Display for Told {
+    fn fmt<W: fmt::Write>(&self, f: &mut fmt::Formatter<W>) -> fmt::Result {
+        match self.0 {
+            Step::Add(rule) => write!(f, "add a rule {}", Terms(rule)),
+            Step::Strike(place) => write!(f, "strike {place}"),
+            Step::Want(part) => write!(f, "want {}", Numbered(part)),
+            Step::Bar(part) => write!(f, "bar {}", Numbered(part)),
+            Step::Release(part) => write!(f, "release {}", Numbered(part)),
         }
     }
 }
 
 pub(crate) fn refusal(rt: &HostRuntime, refusal: Refusal) -> io::Result<()> {
-    let (number, place) = refusal.code();
-    println!(rt; "  refused {number} at {place}")
+    println!(rt; "  refused {refusal}")
 }
 
 pub(crate) fn justification(rt: &HostRuntime, bytes: &[u8], parts: usize) -> io::Result<()> {
     println!(rt; "  passed, {parts} parts")?;
-    for entry in bytes.chunks_exact(3).take(parts) {
-        if let [part, round, rule] = entry {
-            let word = name(*part);
-            println!(rt; "  {word} {round} {rule}")?;
-        }
-    }
-    Ok(())
+    let lines = Lines {
+        margin: "  ",
+        bytes,
+        parts,
+    };
+    print!(rt; "{lines}")
 }

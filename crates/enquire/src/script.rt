@@ -1,8 +1,8 @@
 // The calls that the program makes, refused ones among them.
-use crate::mill::{AXIAL, BRAKE, CROSS, FLOATGATE, GEARBOX, LIFTGATE, MILL};
 use checking::call::{Call, Step};
 use checking::checker::ROOM;
 use checking::rule::Rule;
+use mill::fittings::{AXIAL, BRAKE, CROSS, FLOATGATE, GEARBOX, LIFTGATE, MILL};
 use refusals::Refusal;
 use sets::parts::Bits;
 

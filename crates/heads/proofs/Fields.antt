@@ -1,8 +1,8 @@
 -- The patterns of heads are within the range. Assumes nothing.
-use Rattle.std.proofs.Common.{◌≡◌, ℕ, zero, suc, ◌+◌, ◌*◌, ◌/◌, ◌%◌, ◌^◌, ◌<◌, ◌≤◌, Bool, true, false, cond, not, T, eqb, ltb, leb, sym, ap, subst, inl, inr, true≢false, le_trans, le_of_eq, le_refl, mul-le-mul_right, mod-lt, mod-eq_of_lt, mul-le-mul, eq-or-lt_of_le, div-add-mod', mul_right_comm, le_of_mul-le-mul_right, arith, lit≤, le→leb, eqb→eq, ltb→lt, leb→le, pow_pos, pow_mono}
-use lib.Ieee.{Float, nan, inf, fin, binary32, of_bits, of_fields, nan_bits, up, down, odd}
+use Rattle.std.proofs.Common.{◌≡◌, ℕ, zero, suc, ◌+◌, ◌*◌, ◌/◌, ◌%◌, ◌^◌, ◌<◌, ◌≤◌, Bool, true, false, cond, T, eqb, sym, ap, subst, inl, inr, true≢false, le_trans, le_of_eq, le_refl, mul-le-mul_right, mod-lt, mod-eq_of_lt, mul-le-mul, eq-or-lt_of_le, mul_right_comm, le_of_mul-le-mul_right, arith, lit≤, le→leb, pow_pos, pow_mono}
+use Rattle.std.proofs.lemmas.Bool.{lt-leb, ne_eqb}
+use lib.Ieee.{Float, nan, inf, fin, binary32, of_bits, of_fields, up, down, odd}
 use lib.Ieee.Exact.{HasValue, odd_sign}
-use lib.Ieee.Bits.{nan_bits_above, cond_no, is_false}
 use Rattle.heads.specs.Range.{within, largest}
 
 -- a value a / c with no sign and at most 100 is a head
@@ -27,54 +27,19 @@ under x t k h =
       | inr l ↦ le_trans (mul-le-mul {n₁ = 8388608 + t} {m₁ = 2 ^ x} {n₂ = 16777216} {m₂ = 2 ^ 131} (omega arith) (pow_mono {i = x} {j = 131} (omega arith))) (lit≤ tt)
     ]
 
-no_ones : (x : ℕ) → suc x ≤ 133 → T (not (eqb (suc x) 255))
-no_ones x h = go (eqb (suc x) 255) (eqb→eq (suc x) 255)
-  where
-    clash : suc x ≡ 255 → suc x ≤ 133 → ⊥
-    clash e l = omega arith
-
-    go : (b : Bool) → (T b → suc x ≡ 255) → T (not b)
-    go true k = absurd (clash (k tt) h)
-    go false k = tt
-
 fields : (x t : ℕ) → t < 8388608 → x * 8388608 + t ≤ 1120403456 → T (within (of_fields binary32 false x t))
 unfolding of_fields
 fields zero t k h =
     of_value (odd 24 false t 0 149) (t * 2 ^ 0) (2 ^ 149) (pow_pos 149) (odd_sign 24 false t 0 149)
     (le_trans (mul-le-mul {n₁ = t} {m₁ = 2 ^ 0} {n₂ = 8388608} {m₂ = 1} (omega arith) (le_refl 1)) (lit≤ tt))
 fields (suc x) t k h =
-    let v = of_value (odd 24 false (8388608 + t) x 149) ((8388608 + t) * 2 ^ x) (2 ^ 149) (pow_pos 149) (odd_sign 24 false (8388608 + t) x 149) (under x t k h) in
-    subst (λ (y : Float). T (within y)) (sym (cond_no (eqb (suc x) 255) (cond (eqb t 0) (inf false) nan) (odd 24 false (8388608 + t) x 149) (no_ones x (omega arith)))) v
-
-not_leb : (b : ℕ) → b < 2147483648 → T (not (leb 2147483648 b))
-not_leb b h = go (leb 2147483648 b) (leb→le 2147483648 b)
-  where
-    clash : 2147483648 ≤ b → b < 2147483648 → ⊥
-    clash e l = omega arith
-
-    go : (t : Bool) → (T t → 2147483648 ≤ b) → T (not t)
-    go true k = absurd (clash (k tt) h)
-    go false k = tt
+    subst (λ (b : Bool). T (within (cond b (cond (eqb t 0) (inf false) nan) (odd 24 false (8388608 + t) x 149)))) (sym (ne_eqb (suc x) 255 (omega arith)))
+    (of_value (odd 24 false (8388608 + t) x 149) ((8388608 + t) * 2 ^ x) (2 ^ 149) (pow_pos 149) (odd_sign 24 false (8388608 + t) x 149) (under x t k h))
 
 pub pattern_within : (b : ℕ) → b ≤ largest → T (within (of_bits binary32 b))
 unfolding of_bits
 pattern_within b h =
     let small : b % 2147483648 ≡ b = mod-eq_of_lt (omega arith) in
-    let whole = div-add-mod' b 8388608 in
-    let low : T (not (leb 2147483648 b)) = not_leb b (omega arith) in
-    subst (λ (s : Bool). T (within (of_fields binary32 s (b % 2147483648 / 8388608) (b % 8388608)))) (sym (is_false (leb 2147483648 b) low))
+    subst (λ (s : Bool). T (within (of_fields binary32 s (b % 2147483648 / 8388608) (b % 8388608)))) (sym (lt-leb 2147483648 b (omega arith)))
     (subst (λ (n : ℕ). T (within (of_fields binary32 false (n / 8388608) (b % 8388608)))) (sym small)
     (fields (b / 8388608) (b % 8388608) (mod-lt b (lit≤ tt)) (omega arith)))
-
-pub pattern_number : (b : ℕ) → b ≤ largest → T (not (nan_bits binary32 b))
-pattern_number b h =
-    let small : b % 2147483648 ≡ b = mod-eq_of_lt (omega arith) in
-    subst (λ (t : Bool). T (not t)) (sym (nan_bits_above binary32 b))
-    (subst (λ (n : ℕ). T (not (ltb 2139095040 n))) (sym small) (go (ltb 2139095040 b) (ltb→lt 2139095040 b)))
-  where
-    clash : 2139095040 < b → b ≤ 1120403456 → ⊥
-    clash e l = omega arith
-
-    go : (t : Bool) → (T t → 2139095040 < b) → T (not t)
-    go true k = absurd (clash (k tt) h)
-    go false k = tt

@@ -8,7 +8,7 @@ mod order;
 pub const LARGEST: u32 = 0x42C8_0000;
 
 /// A head of water: 0 to 100 metres, and nothing else.
-#[derive(Clone, Copy)]
+#[derive(Clone, Copy, PartialEq, PartialOrd)]
 pub struct Head {
     metres: f32,
     ghost ok: { T (within metres) },

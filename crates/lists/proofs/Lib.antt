@@ -1,5 +1,4 @@
 pub mod Nths
 pub mod Holding
 pub mod Sorting
-pub mod Closing
 pub mod Less

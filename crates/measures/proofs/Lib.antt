@@ -1,3 +1,3 @@
 pub mod Ascents
 pub mod Folding
-pub mod Carding
+pub mod Instances

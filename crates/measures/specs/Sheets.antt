@@ -2,7 +2,7 @@
 use Rattle.std.specs.Prelude.{◌≡◌, ℕ, ◌+◌, ◌-◌, ◌^◌, min, leb, Bool, true, ◌⊎◌, Some, None, Option, from_bits}
 use Rattle.std.proofs.Common.{inl, inr, arith}
 use Rattle.std.specs.Float.{binary32}
-use Rattle.std.specs.Option.{option_map}
+use Rattle.std.specs.Option.{ForSome}
 use Rattle.std.proofs.lemmas.Bool.{leb-true, le-leb, cases_lt}
 use Rattle.heads.specs.declared.head.Head.{Head}
 use Rattle.heads.specs.Range.{largest}
@@ -10,11 +10,10 @@ use Rattle.heads.specs.Orders.{zero_head, at_most, larger}
 use Rattle.heads.proofs.Ordering.{head_transitive, head_total, head_grows}
 use Rattle.refusals.specs.Refusals.{Answer}
 use Rattle.measures.specs.declared.pence.Pence.{Pence}
-use Rattle.measures.specs.declared.price_sheet.PriceSheet.{PriceSheet}
-use Rattle.measures.specs.declared.head_sheet.HeadSheet.{HeadSheet}
+use Rattle.measures.specs.declared.sheet.Sheet.{Sheet}
 use Rattle.measures.specs.Scales.{Scale}
 use Rattle.measures.specs.Cards.{most_pence}
-use Rattle.measures.specs.Writing.{on, SetCard}
+use Rattle.measures.specs.Writing.{shown_on, SetCard}
 
 -- how cards of X join values of V: under the laws of a scale, and no value is above what it makes with a card
 pub record Joining (X V : Type 0) : Type 0 where
@@ -66,25 +65,25 @@ abbrev pub raising : Joining Head Head
 raising = record { start = zero_head; join = larger; at_most = at_most; transitive = head_transitive; total = head_total; grows = head_grows }
 
 -- the price on the card of a part, in pence
-abbrev pub price_on : PriceSheet → ℕ → Option ℕ
-price_on s p = option_map (λ (c : Pence). c.pence) (on s.sheet p)
+abbrev pub price_on : Sheet Pence → ℕ → Option ℕ
+price_on = shown_on (λ c. c.pence)
 
 -- the head on the card of a part
-abbrev pub head_on : HeadSheet → ℕ → Option Head
-head_on s p = on s.sheet p
+abbrev pub head_on : Sheet Head → ℕ → Option Head
+head_on = shown_on (λ h. h)
 
-abbrev pub price_scale : PriceSheet → Scale ℕ
+abbrev pub price_scale : Sheet Pence → Scale ℕ
 price_scale s = scale_of adding (price_on s)
 
-abbrev pub head_scale : HeadSheet → Scale Head
+abbrev pub head_scale : Sheet Head → Scale Head
 head_scale s = scale_of raising (head_on s)
 
 -- where the part has a card, its price is added, up to the largest total
-abbrev pub Adds : PriceSheet → ℕ → ℕ → ℕ → Type 0
-Adds s v p r = (x : ℕ) → price_on s p ≡ Some x → r ≡ min (v + x) most_total
+abbrev pub Adds : Sheet Pence → ℕ → ℕ → ℕ → Type 0
+Adds s v p r = ForSome (price_on s p) (λ x. r ≡ min (v + x) most_total)
 
-abbrev pub SetPrice : ℕ → ℕ → PriceSheet → PriceSheet → Answer → Type 0
+abbrev pub SetPrice : ℕ → ℕ → Sheet Pence → Sheet Pence → Answer → Type 0
 SetPrice = SetCard price_on most_pence 72 (λ x pence. x ≡ pence)
 
-abbrev pub SetHead : ℕ → ℕ → HeadSheet → HeadSheet → Answer → Type 0
+abbrev pub SetHead : ℕ → ℕ → Sheet Head → Sheet Head → Answer → Type 0
 SetHead = SetCard head_on largest 71 (λ h pattern. h.metres ≡ from_bits binary32 pattern)

@@ -1,6 +1,7 @@
 -- Cards written: one for each part. Assumes nothing.
 use Rattle.std.specs.Prelude.{◌≡◌, ℕ, ◌<◌, ◌≤◌, Some, None, Ok, Err, Option, MatchOption, ◌≢◌}
 use Rattle.std.specs.List.{slice_get}
+use Rattle.std.specs.Option.{option_map}
 use Rattle.sets.specs.Width.{how_many}
 use Rattle.refusals.specs.declared.Refusal.{Refusal}
 use Rattle.refusals.specs.Refusals.{Answer, Refused}
@@ -13,6 +14,10 @@ Everywhere x card = (p : ℕ) → p < how_many → card p ≡ Some x
 -- the card of a part
 abbrev pub on : {X : Type 0} → Sheet X → ℕ → Option X
 on s p = slice_get s.cards p
+
+-- what the card of a part shows
+abbrev pub shown_on : {X V : Type 0} → (X → V) → Sheet X → ℕ → Option V
+shown_on show s p = option_map show (on s p)
 
 -- a card for each number up to the limit that it is to show, and none for any above it
 abbrev pub UpTo : {X : Type 0} → ℕ → (X → ℕ → Type 0) → ℕ → Option X → Type 0

@@ -1,66 +1,58 @@
-// Heads of water: a sheet of them, as a measure.
-ghost use Rattle.std.specs.Prelude.{◌≡◌};
-ghost use Rattle.heads.specs.Orders.{zero_head};
-ghost use Rattle.measures.specs.Writing.{Everywhere};
-ghost use Rattle.measures.specs.Sheets.{head_on, head_scale, SetHead};
+// Heads of water, as cards of a sheet.
+ghost use Rattle.std.specs.Prelude.{◌≡◌, from_bits};
+ghost use Rattle.std.specs.Float.{binary32};
+ghost use Rattle.heads.specs.Range.{largest};
+ghost use Rattle.heads.specs.Orders.{larger};
+ghost use Rattle.measures.specs.Sheets.{raising};
 
-use crate::measure::Measure;
+use crate::card::Card;
 use crate::sheet::Sheet;
 use heads::head::Head;
 use refusals::Refusal;
 
-/// A head of water for each part.
-#[derive(Drop)]
-pub struct HeadSheet {
-    sheet: Sheet<Head>,
-}
+/// A head of water for each part: values are heads.
+pub type HeadSheet = Sheet<Head>;
 
-impl HeadSheet {
-    /// The sheet on which every head is 0.
-    pub fn new() -> HeadSheet
-        ensures { Everywhere zero_head (head_on result) }
-    {
-        HeadSheet {
-            sheet: Sheet::of(Head::zero()),
-        }
-    }
+impl Card for Head {
+    type Number = u32;
 
-    /// Sets the head of a part by its bit pattern. A refused head changes nothing.
-    pub fn set(&mut self, part: u8, pattern: u32) -> Result<(), Refusal>
-        ensures { SetHead part pattern self.old self.new result }
-    {
-        self.sheet.write(
-            part,
-            Head::from_pattern(pattern),
-            Refusal::HeadRange { part },
-        )
-    }
-
-    /// The head of a part, or none where there is no such part.
-    pub fn card(&self, part: u8) -> Option<Head>
-        ensures { result ≡ head_on self.now part }
-    {
-        self.sheet.card(part)
-    }
-}
-
-impl Measure for HeadSheet {
     type Value = Head;
 
-    ghost scale = { head_scale };
+    ghost number_of = { λ n. n };
 
-    fn start(&self) -> Head {
+    ghost limit = { largest };
+
+    ghost code = { 71 };
+
+    ghost shown = { λ h. h };
+
+    ghost Shows = { λ h pattern. h.metres ≡ from_bits binary32 pattern };
+
+    ghost joining = { raising };
+
+    ghost Joins = { λ v h r. r ≡ larger v h };
+
+    fn from_number(pattern: u32) -> Option<Head> {
+        Head::from_pattern(pattern)
+    }
+
+    fn refusal(part: u8) -> Refusal {
+        Refusal::HeadRange { part }
+    }
+
+    fn zero() -> Head {
         Head::zero()
     }
 
-    fn extend(&self, value: &Head, part: u8) -> Head {
-        match self.card(part) {
-            Some(head) => value.larger(head),
-            None => *value,
-        }
+    fn value(self) -> Head {
+        self
     }
 
-    fn at_most(&self, a: &Head, b: &Head) -> bool {
-        a.at_most(*b)
+    fn join(value: Head, head: Head) -> Head {
+        value.larger(head)
+    }
+
+    fn at_most(a: Head, b: Head) -> bool {
+        a.at_most(b)
     }
 }

@@ -1,6 +1,7 @@
 // Measures: how outfits are valued, and how values compare.
 #![tactic(auto)]
 
+pub mod card;
 pub mod head_sheet;
 pub mod measure;
 pub mod pence;

@@ -1,68 +1,56 @@
-// Prices: a sheet of them, as a measure.
-ghost use Rattle.std.specs.Prelude.{◌≡◌};
-ghost use Rattle.measures.specs.Writing.{Everywhere};
-ghost use Rattle.measures.specs.Sheets.{price_on, price_scale, SetPrice, Adds};
+// Prices, as cards of a sheet.
+ghost use Rattle.std.specs.Prelude.{◌≡◌, ◌+◌, min};
+ghost use Rattle.measures.specs.Cards.{most_pence};
+ghost use Rattle.measures.specs.Sheets.{adding, most_total};
 
-use crate::measure::Measure;
+use crate::card::Card;
 use crate::pence::Pence;
 use crate::sheet::Sheet;
 use refusals::Refusal;
 
-/// A price for each part.
-#[derive(Drop)]
-pub struct PriceSheet {
-    sheet: Sheet<Pence>,
-}
+/// A price for each part: values are totals in pence.
+pub type PriceSheet = Sheet<Pence>;
 
-impl PriceSheet {
-    /// The sheet on which every price is 0.
-    pub fn new() -> PriceSheet
-        ensures { Everywhere 0 (price_on result) }
-    {
-        PriceSheet {
-            sheet: Sheet::of(Pence::zero()),
-        }
-    }
+impl Card for Pence {
+    type Number = u64;
 
-    /// Sets the price of a part, in pence. A refused price changes nothing.
-    pub fn set(&mut self, part: u8, pence: u64) -> Result<(), Refusal>
-        ensures { SetPrice part pence self.old self.new result }
-    {
-        self.sheet
-            .write(part, Pence::of(pence), Refusal::PriceLimit { part })
-    }
-
-    /// The price of a part, in pence, or none where there is no such part.
-    pub fn card(&self, part: u8) -> Option<u64>
-        ensures { result ≡ price_on self.now part }
-    {
-        match self.sheet.card(part) {
-            Some(card) => Some(card.number()),
-            None => None,
-        }
-    }
-}
-
-impl Measure for PriceSheet {
     type Value = u64;
 
-    ghost scale = { price_scale };
+    ghost number_of = { λ n. n };
 
-    fn start(&self) -> u64 {
-        0
+    ghost limit = { most_pence };
+
+    ghost code = { 72 };
+
+    ghost shown = { λ x. x.pence };
+
+    ghost Shows = { λ x n. x ≡ n };
+
+    ghost joining = { adding };
+
+    ghost Joins = { λ v x r. r ≡ min (v + x) most_total };
+
+    fn from_number(pence: u64) -> Option<Pence> {
+        Pence::try_from(pence).ok()
     }
 
-    fn extend(&self, value: &u64, part: u8) -> u64
-        ensures extended { result ≡ (price_scale self.now).extend value.now part }
-        ensures adds { Adds self.now value.now part result }
-    {
-        match self.card(part) {
-            Some(pence) => value.saturating_add(pence),
-            None => *value,
-        }
+    fn refusal(part: u8) -> Refusal {
+        Refusal::PriceLimit { part }
     }
 
-    fn at_most(&self, a: &u64, b: &u64) -> bool {
-        *a <= *b
+    fn zero() -> Pence {
+        Pence::zero()
+    }
+
+    fn value(self) -> u64 {
+        u64::from(self)
+    }
+
+    fn join(value: u64, pence: u64) -> u64 {
+        value.saturating_add(pence)
+    }
+
+    fn at_most(a: u64, b: u64) -> bool {
+        a <= b
     }
 }

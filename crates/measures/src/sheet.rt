@@ -1,14 +1,82 @@
-// The type of a sheet.
+// A sheet of cards, as a measure.
 ghost use Rattle.std.specs.Prelude.{◌≡◌, length};
+ghost use Rattle.std.specs.Option.{ForSome};
 ghost use Rattle.sets.specs.Width.{how_many};
 
+use crate::card::Card;
+use crate::measure::Measure;
+use refusals::Refusal;
 use sets::parts::PARTS;
-
-mod cards;
 
 /// A sheet: a card for each part.
 #[derive(Drop)]
 pub struct Sheet<C> {
     cards: [C; PARTS],
     ghost room: { length cards ≡ how_many },
+}
+
+impl<C: Card> Sheet<C> {
+    ghost use Rattle.measures.specs.Writing.{Everywhere, SetCard, Written, shown_on};
+
+    /// The sheet on which every card shows where values start.
+    pub fn new() -> Sheet<C>
+        ensures { Everywhere C.joining.start (shown_on C.shown result) }
+    {
+        Sheet {
+            cards: [C::zero(); PARTS],
+        }
+    }
+
+    /// Sets the card of a part by its number. A refused number changes nothing.
+    pub fn set(&mut self, part: u8, number: C::Number) -> Result<(), Refusal>
+        ensures { SetCard (shown_on C.shown) C.limit C.code C.Shows part (C.number_of number) self.old self.new result }
+    {
+        self.write(part, C::from_number(number), C::refusal(part))
+    }
+
+    /// What the card of a part shows, or none where there is no such part.
+    pub fn card(&self, part: u8) -> Option<C::Value>
+        ensures { result ≡ shown_on C.shown self.now part }
+    {
+        self.cards.get(part as usize).map(|card| card.value())
+    }
+
+    // Writes a card: refused where there is no such part, and then, with the given refusal, where there is no card.
+    fn write(&mut self, part: u8, card: Option<C>, refusal: Refusal) -> Result<(), Refusal>
+        ensures { Written part card refusal self.old self.new result }
+    {
+        let place = part as usize;
+        if place >= PARTS {
+            return Err(Refusal::NoPart { part });
+        }
+        self.cards[place] = card.ok_or(refusal)?;
+        Ok(())
+    }
+}
+
+impl<C: Card> Measure for Sheet<C> {
+    ghost use Rattle.measures.specs.Writing.{shown_on};
+    ghost use Rattle.measures.specs.Sheets.{joined, scale_of};
+
+    type Value = C::Value;
+
+    ghost scale = { λ s. scale_of C.joining (shown_on C.shown s) };
+
+    fn start(&self) -> C::Value {
+        C::zero().value()
+    }
+
+    fn extend(&self, value: &C::Value, part: u8) -> C::Value
+        ensures extended { result ≡ joined C.joining value.now (shown_on C.shown self.now part) }
+        ensures joins { ForSome (shown_on C.shown self.now part) (λ card. C.Joins value.now card result) }
+    {
+        match self.card(part) {
+            Some(card) => C::join(*value, card),
+            None => *value,
+        }
+    }
+
+    fn at_most(&self, a: &C::Value, b: &C::Value) -> bool {
+        C::at_most(*a, *b)
+    }
 }

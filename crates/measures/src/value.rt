@@ -4,7 +4,7 @@ ghost use Rattle.measures.specs.Values.{value as worth, ValueLaw};
 ghost use Rattle.measures.specs.Ranks.{Ranks};
 
 use crate::measure::Measure;
-use sets::parts::{PARTS, Parts};
+use sets::parts::Parts;
 use std::cmp::Ordering;
 
 /// The value of an outfit: the starting value, extended by its parts in ascending number.
@@ -13,10 +13,8 @@ pub fn value_of<M: Measure>(measure: &M, outfit: Parts) -> M::Value
     ensures law { ValueLaw (M.scale measure.now) }
 {
     let mut value = measure.start();
-    for part in 0..PARTS as u8 {
-        if outfit.has(part) {
-            value = measure.extend(&value, part);
-        }
+    for part in outfit {
+        value = measure.extend(&value, part);
     }
     value
 }

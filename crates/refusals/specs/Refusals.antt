@@ -1,5 +1,5 @@
 -- Each refusal's number and place. Assumes nothing.
-use Rattle.std.specs.Prelude.{◌≡◌, ℕ, Some, None, Ok, Option, Result, MatchResult}
+use Rattle.std.specs.Prelude.{◌≡◌, ℕ, Some, None, Ok, Option, Result, List, ◌++◌, codes, decimal, MatchResult}
 use Rattle.refusals.specs.declared.Refusal.{Refusal}
 use Rattle.refusals.specs.declared.Refusal.TheVariants.{UnfitKind, BookFull, OwnFull, NoOwnRule, NoPart, Clash, ShortBuffer, NoneChosen, SeveralChosen, Incompatible, NoRound, WantedMissing, BarredPresent, HeadRange, PriceLimit}
 
@@ -23,6 +23,10 @@ numbered (WantedMissing part) = (56, part)
 numbered (BarredPresent part) = (57, part)
 numbered (HeadRange part) = (71, part)
 numbered (PriceLimit part) = (72, part)
+
+-- how it is told, as in "55 at 3"
+abbrev pub told : Code → List ℕ
+told code = decimal code.0 ++ (codes " at " ++ decimal code.1)
 
 -- the answer is the refusal with this number and place
 abbrev pub Refused : {X : Type 0} → Result X Refusal → Code → Type 0

@@ -1,8 +1,11 @@
 // Why a call is refused: every case that there is, with its number and its place.
 #![tactic(auto)]
 
-ghost use Rattle.std.specs.Prelude.{◌≡◌};
-ghost use Rattle.refusals.specs.Refusals.{numbered, ToldApart};
+ghost use Rattle.std.specs.Prelude.{◌≡◌, Some};
+ghost use Rattle.refusals.specs.Refusals.{numbered, told, ToldApart};
+
+use std::error::Error;
+use std::fmt;
 
 /// A refusal, with what it is about: a rule by its number, a part by its number, a place or a length.
 #[derive(Clone, Copy, PartialEq, Eq, Debug)]
@@ -40,16 +43,12 @@ pub enum Refusal {
 }
 
 impl Refusal {
+    // Numbers, since refusals are told by them outside.
+
     /// Its number and its place. No two refusals have both in common.
     pub fn code(self) -> (u8, usize)
         ensures value { result ≡ numbered self }
         ensures apart { ToldApart }
-    {
-        self.numbers()
-    }
-
-    fn numbers(self) -> (u8, usize)
-        ensures { result ≡ numbered self }
     {
         match self {
             Refusal::UnfitKind => (21, 0),
@@ -70,3 +69,14 @@ impl Refusal {
         }
     }
 }
+
+impl fmt::Display for Refusal {
+    ghost output = { λ e. Some (told (numbered e)) };
+
+    fn fmt<W: fmt::Write>(&self, f: &mut fmt::Formatter<W>) -> fmt::Result {
+        let (number, place) = self.code();
+        write!(f, "{number} at {place}")
+    }
+}
+
+impl Error for Refusal {}

@@ -1,12 +1,11 @@
 -- What can be told of sets of parts, and the set of all parts of which something that can be told holds. Assumes nothing.
-use Rattle.std.proofs.Common.{◌≡◌, ℕ, zero, suc, ◌+◌, ◌*◌, ◌/◌, ◌%◌, ◌^◌, ◌<◌, ◌⊎◌, sym, ap, ◌∙◌, inl, inr, le_of_suc-le-suc, arith}
-use lib.Bits.{bit_and}
+use Rattle.std.proofs.Common.{ℕ, zero, suc, ◌<◌, ◌≤◌, Bool, ◌⊎◌, Decides, inl, inr, arith}
 use Rattle.std.proofs.lemmas.Bool.{cases_eq}
+use Rattle.std.proofs.lemmas.Nat.Bits.{bit_at_above}
 use Rattle.sets.specs.declared.parts.Parts.{Parts}
 use Rattle.sets.specs.Width.{how_many}
 use Rattle.sets.specs.Members.{Has, Within, Apart, Empty, Holds}
-use Rattle.sets.proofs.Digits.{digit, digit_suc, digit_zero, digit_place, some_digit}
-use Rattle.sets.proofs.Sets.{within_and, and_within, apart_and, and_apart}
+use Rattle.sets.proofs.Sets.{decides_within, decides_apart, none_or_some, no_part, and_part}
 
 -- it holds, or it does not
 abbrev pub Told : Type 0 → Type 0
@@ -21,54 +20,35 @@ pub told_not : {P : Type 0} → Told P → Told (P → ⊥)
 told_not (inl p) = inr (λ n. n p)
 told_not (inr n) = inl n
 
+told_by : {P : Type 0} (r : Bool) → Decides r P → Told P
+told_by r d = grind (arith, d)
+
 pub told_has : (s : Parts) (p : ℕ) → Told (Has s p)
-told_has s p = cases_eq ((s.bits / 2 ^ p) % 2) 1
+told_has s p = cases_eq _ 1
 
 pub told_within : (a b : Parts) → Told (Within a b)
-told_within a b = elim (cases_eq (bit_and a.bits b.bits) a.bits) [
-  | inl e ↦ inl (λ p. and_within a.bits b.bits p e)
-  | inr n ↦ inr (λ h. n (within_and how_many a.bits b.bits a.small h))
-]
+told_within a b = told_by _ (decides_within a b)
 
 pub told_apart : (a b : Parts) → Told (Apart a b)
-told_apart a b = elim (cases_eq (bit_and a.bits b.bits) 0) [
-  | inl e ↦ inl (λ p. and_apart a.bits b.bits p e)
-  | inr n ↦ inr (λ h. n (apart_and how_many a.bits b.bits a.small h))
-]
-
--- a part of a set is one of those that there are
-pub known : (s : Parts) (p : ℕ) → Has s p → p < how_many
-known s p h = digit_place how_many s.bits p s.small h
-
--- the numbers below w of which P holds, as digits
-digits_of : (w : ℕ) (P : ℕ → Type 0) → ((p : ℕ) → Told (P p))
-    → (s : ℕ) × (s < 2 ^ w) × ((p : ℕ) → p < w → (digit s p ≡ 1 → P p) × (P p → digit s p ≡ 1))
-digits_of zero P told = (0, omega arith, λ p l. absurd (let z : ⊥ = omega arith in z))
-digits_of (suc w) P told = go (digits_of w (λ p. P (suc p)) (λ p. told (suc p))) (told 0)
-  where
-    both : (s t : ℕ) → t / 2 ≡ s → ((p : ℕ) → p < w → (digit s p ≡ 1 → P (suc p)) × (P (suc p) → digit s p ≡ 1)) → (digit t 0 ≡ 1 → P 0) × (P 0 → digit t 0 ≡ 1)
-        → (p : ℕ) → p < suc w → (digit t p ≡ 1 → P p) × (P p → digit t p ≡ 1)
-    both s t e h low zero l = low
-    both s t e h low (suc p) l =
-        let d : digit t (suc p) ≡ digit s p = digit_suc t p ∙ ap (λ (x : ℕ). digit x p) e in
-        let at = h p (le_of_suc-le-suc l) in
-        (λ i. at.0 (sym d ∙ i), λ i. d ∙ at.1 i)
-
-    go : (s : ℕ) × (s < 2 ^ w) × ((p : ℕ) → p < w → (digit s p ≡ 1 → P (suc p)) × (P (suc p) → digit s p ≡ 1)) → Told (P 0)
-        → (s : ℕ) × (s < 2 ^ suc w) × ((p : ℕ) → p < suc w → (digit s p ≡ 1 → P p) × (P p → digit s p ≡ 1))
-    go t (inl h) = (2 * t.0 + 1, omega (arith, t.1), both t.0 (2 * t.0 + 1) (omega arith) t.2 (λ i. h, λ i. omega arith))
-    go t (inr n) = (2 * t.0, omega (arith, t.1), both t.0 (2 * t.0) (omega arith) t.2 (λ i. absurd (let z : ⊥ = omega arith in z), λ i. absurd (n i)))
-
--- the set of the parts of which P holds, if P holds of no other number
-pub collect : (P : ℕ → Type 0) → ((p : ℕ) → Told (P p)) → ((p : ℕ) → P p → p < how_many) → (s : Parts) × Holds s P
-collect P told small =
-    let n = digits_of how_many P told in
-    let s : Parts = record { bits = n.0; small = n.1 } in
-    (s, λ p. (λ h. (n.2 p (known s p h)).0 h, λ h. (n.2 p (small p h)).1 h))
+told_apart a b = told_by _ (decides_apart a b)
 
 -- a set has no part, or some part
 pub some_or_none : (s : Parts) → Empty s ⊎ ((p : ℕ) × Has s p)
-some_or_none s = elim (some_digit how_many s.bits s.small) [
-  | inl z ↦ inl (λ p h. omega (arith, digit_zero p, ap (λ (x : ℕ). digit x p) z))
-  | inr t ↦ inr t
-]
+some_or_none s = grind (arith, none_or_some how_many s.bits s.small)
+
+-- a part of a set is one of those that there are
+pub known : (s : Parts) (p : ℕ) → Has s p → p < how_many
+known s p h = grind (arith, bit_at_above s.bits how_many p s.small)
+
+-- the set of the parts below k of which P holds
+below : (P : ℕ → Type 0) → ((p : ℕ) → Told (P p)) → (k : ℕ) → k ≤ how_many → (s : Parts) × Holds s (λ p. (p < k) × P p)
+below P told zero l = (no_part.0, λ p. grind (arith, no_part.1 p))
+below P told (suc k) l = go (below P told k (omega arith)) (told k)
+  where
+    go : (s : Parts) × Holds s (λ p. (p < k) × P p) → Told (P k) → (s : Parts) × Holds s (λ p. (p < suc k) × P p)
+    go s (inl h) = let t = and_part s.0 k l in (t.0, λ p. grind (arith, s.1 p, t.1 p))
+    go s (inr n) = (s.0, λ p. grind (arith, s.1 p))
+
+-- the set of the parts of which P holds, if P holds of no other number
+pub collect : (P : ℕ → Type 0) → ((p : ℕ) → Told (P p)) → ((p : ℕ) → P p → p < how_many) → (s : Parts) × Holds s P
+collect P told small = let s = below P told how_many (omega arith) in (s.0, λ p. (λ h. ((s.1 p).0 h).1, λ h. (s.1 p).1 (small p h, h)))

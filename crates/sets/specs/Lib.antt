@@ -2,3 +2,4 @@ pub mod Width
 pub mod Members
 pub mod Numbers
 pub mod Counting
+pub mod Steps

@@ -2,6 +2,9 @@
 ghost use Rattle.std.specs.Prelude.{◌^◌, ◌<◌};
 ghost use Rattle.sets.specs.Width.{how_many};
 
+pub use self::iter::IntoIter;
+
+mod iter;
 mod sets;
 
 /// The number that stands for a set: part p is in it where the binary digit of place p is 1.

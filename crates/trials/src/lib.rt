@@ -2,17 +2,20 @@
 #![tactic(auto)]
 
 #[cfg(test)]
+mod answers;
+#[cfg(test)]
 mod enquiries;
 #[cfg(test)]
 mod sheets;
 
 #[cfg(test)]
 mod tests {
+    use crate::answers::answered;
     use checking::book::typed::TypedBook;
     use checking::book::{Book, MOST_RULES};
     use checking::checker::{ROOM, judge};
-    use checking::refusal::Refusal;
     use checking::rule::Rule;
+    use refusals::Refusal;
     use sets::parts::{Bits, PARTS};
     use std::process::Abort;
     use std::test::Fail;
@@ -26,16 +29,8 @@ mod tests {
         Ok(book)
     }
 
-    // The number and place of the refusal, or 0 and the number of parts; a refusal leaves the buffer as it was.
-    fn verdict(rt: &impl Abort, book: &TypedBook, outfit: Bits) -> Result<(u8, usize), Fail> {
-        let mut buffer = [255; ROOM];
-        match judge(book, outfit, &mut buffer) {
-            Ok(parts) => Ok((0, parts)),
-            Err(refusal) => {
-                assert!(rt; buffer[..] == [255; ROOM][..]);
-                Ok(refusal.code())
-            }
-        }
+    fn verdict(rt: &impl Abort, book: &TypedBook, outfit: Bits) -> Result<usize, (u8, usize)> {
+        answered(rt, |buffer| judge(book, outfit, buffer))
     }
 
     #[test]
@@ -45,7 +40,7 @@ mod tests {
             assert!(rt; made.is_err());
         }
         let rule = Rule::from_numbers(2, 6, 5, 1 << 63)?;
-        assert_eq!(rt; rule.kind, 2);
+        assert_eq!(rt; u8::from(rule.kind), 2);
         assert_eq!(rt; rule.heads.to_bits(), 6);
         assert_eq!(rt; rule.needs.to_bits(), 5);
         assert_eq!(rt; rule.absences.to_bits(), 1 << 63);
@@ -56,8 +51,8 @@ mod tests {
     #[test]
     fn circle(rt: HostRuntime) -> Result<(), Fail> {
         let book = book_of(&[(0, 1, 2, 0), (0, 2, 1, 0)])?;
-        assert_eq!(rt; verdict(&rt, &book, 3)?, (55, 0));
-        assert_eq!(rt; verdict(&rt, &book, 0)?, (0, 0));
+        assert_eq!(rt; verdict(&rt, &book, 3), Err((55, 0)));
+        assert_eq!(rt; verdict(&rt, &book, 0), Ok(0));
         Ok(())
     }
 
@@ -65,11 +60,11 @@ mod tests {
     #[test]
     fn own_absence(rt: HostRuntime) -> Result<(), Fail> {
         let book = book_of(&[(0, 1, 0, 1)])?;
-        assert_eq!(rt; verdict(&rt, &book, 1)?, (55, 0));
-        assert_eq!(rt; verdict(&rt, &book, 0)?, (52, 0));
+        assert_eq!(rt; verdict(&rt, &book, 1), Err((55, 0)));
+        assert_eq!(rt; verdict(&rt, &book, 0), Err((52, 0)));
         let book = book_of(&[(0, 1, 1, 1)])?;
-        assert_eq!(rt; verdict(&rt, &book, 1)?, (55, 0));
-        assert_eq!(rt; verdict(&rt, &book, 0)?, (0, 0));
+        assert_eq!(rt; verdict(&rt, &book, 1), Err((55, 0)));
+        assert_eq!(rt; verdict(&rt, &book, 0), Ok(0));
         Ok(())
     }
 
@@ -77,11 +72,11 @@ mod tests {
     #[test]
     fn exclusive(rt: HostRuntime) -> Result<(), Fail> {
         let book = book_of(&[(2, 3, 0, 0), (0, 1, 0, 0), (0, 2, 0, 0), (0, 0, 0, 0)])?;
-        assert_eq!(rt; verdict(&rt, &book, 3)?, (53, 0));
-        assert_eq!(rt; verdict(&rt, &book, 1)?, (52, 2));
+        assert_eq!(rt; verdict(&rt, &book, 3), Err((53, 0)));
+        assert_eq!(rt; verdict(&rt, &book, 1), Err((52, 2)));
         let book = book_of(&[(2, 3, 0, 0), (0, 0, 2, 0)])?;
-        assert_eq!(rt; verdict(&rt, &book, 2)?, (54, 1));
-        assert_eq!(rt; verdict(&rt, &book, 1)?, (0, 1));
+        assert_eq!(rt; verdict(&rt, &book, 2), Err((54, 1)));
+        assert_eq!(rt; verdict(&rt, &book, 1), Ok(1));
         Ok(())
     }
 
@@ -89,11 +84,11 @@ mod tests {
     #[test]
     fn choice(rt: HostRuntime) -> Result<(), Fail> {
         let book = book_of(&[(1, 3, 4, 0), (0, 4, 0, 0)])?;
-        assert_eq!(rt; verdict(&rt, &book, 5)?, (0, 2));
-        assert_eq!(rt; verdict(&rt, &book, 6)?, (0, 2));
-        assert_eq!(rt; verdict(&rt, &book, 7)?, (0, 3));
-        assert_eq!(rt; verdict(&rt, &book, 4)?, (52, 0));
-        assert_eq!(rt; verdict(&rt, &book, 3)?, (52, 1));
+        assert_eq!(rt; verdict(&rt, &book, 5), Ok(2));
+        assert_eq!(rt; verdict(&rt, &book, 6), Ok(2));
+        assert_eq!(rt; verdict(&rt, &book, 7), Ok(3));
+        assert_eq!(rt; verdict(&rt, &book, 4), Err((52, 0)));
+        assert_eq!(rt; verdict(&rt, &book, 3), Err((52, 1)));
         Ok(())
     }
 
@@ -144,12 +139,9 @@ mod tests {
     #[test]
     fn chain(rt: HostRuntime) -> Result<(), Fail> {
         let mut book = TypedBook::open();
-        let mut needs = 0;
-        let mut head: Bits = 1;
-        for _ in 0..PARTS {
-            book.enter(Rule::from_numbers(0, head, needs, 0)?)?;
-            needs = head;
-            head = head.wrapping_shl(1);
+        for part in 0..PARTS {
+            let head: Bits = 1 << part;
+            book.enter(Rule::from_numbers(0, head, head >> 1, 0)?)?;
         }
         let mut buffer = [0; ROOM];
         assert_eq!(rt; judge(&book, Bits::MAX, &mut buffer), Ok(64));

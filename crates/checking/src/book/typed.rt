@@ -3,9 +3,9 @@ ghost use Rattle.std.specs.Prelude.{◌≡◌, []};
 ghost use Rattle.checking.specs.Books.{typed, Entered};
 
 use crate::book::{Book, MOST_RULES};
-use crate::refusal::Refusal;
 use crate::rule::Rule;
 use lists::held::Held;
+use refusals::Refusal;
 
 /// A book in memory, which has room for all its rules from the start.
 #[derive(Drop)]
@@ -27,10 +27,9 @@ impl TypedBook {
     pub fn enter(&mut self, rule: Rule) -> Result<(), Refusal>
         ensures { Entered rule self.old self.new result }
     {
-        if !self.rules.push(rule) {
-            return Err(Refusal::BookFull { length: MOST_RULES });
-        }
-        Ok(())
+        self.rules
+            .push(rule)
+            .map_err(|_| Refusal::BookFull { length: MOST_RULES })
     }
 }
 

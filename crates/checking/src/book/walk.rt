@@ -3,7 +3,8 @@ ghost use Rattle.std.specs.Prelude.{◌≡◌, ◌+◌, ◌≤◌, ◌++◌, len
 ghost use Rattle.checking.specs.Sizes.{most_in_force};
 ghost use Rattle.lists.specs.Held.{held};
 
-use crate::book::Book;
+use crate::book::own::MOST_OWN;
+use crate::book::{Book, MOST_RULES};
 use crate::rule::Rule;
 use lists::held::Held;
 
@@ -17,10 +18,11 @@ pub(crate) fn append<B: Book>(book: &B, rules: &mut InForce)
     requires { length (held rules.old) + length (B.meaning book.now).rules ≤ most_in_force }
     ensures { held rules.new ≡ held rules.old ++ (B.meaning book.now).rules }
 {
-    let mut place = 0;
-    while let Some(rule) = book.rule(place) {
-        rules.push(rule);
-        place += 1;
+    for place in 0..MOST_RULES {
+        let Some(rule) = book.rule(place) else {
+            return;
+        };
+        let _ = rules.push(rule);
     }
 }
 
@@ -33,12 +35,11 @@ pub(crate) fn in_force<B: Book>(book: &B) -> InForce
     rules
 }
 
-// The rules of one book, and then those of another.
-pub(crate) fn both<A: Book, C: Book>(first: &A, second: &C) -> InForce
-    requires { length (A.meaning first.now).rules + length (C.meaning second.now).rules ≤ most_in_force }
-    ensures { held result ≡ (A.meaning first.now).rules ++ (C.meaning second.now).rules }
+// The rules of a book, and then own rules.
+pub(crate) fn both<B: Book>(book: &B, own: &Held<Rule, MOST_OWN>) -> InForce
+    ensures { held result ≡ (B.meaning book.now).rules ++ held own.now }
 {
-    let mut rules = in_force(first);
-    append(second, &mut rules);
+    let mut rules = in_force(book);
+    append(own, &mut rules);
     rules
 }

@@ -32,20 +32,19 @@ impl<B: Book, M: Measure> Enquiry<B, M> {
     pub fn add(&mut self, rule: Rule) -> Result<(), Refusal>
         ensures { Stepped (Step.Add rule) self.old self.new result }
     {
-        if !self.own.push(rule) {
-            return Err(Refusal::OwnFull { length: MOST_OWN });
-        }
-        Ok(())
+        self.own
+            .push(rule)
+            .map_err(|_| Refusal::OwnFull { length: MOST_OWN })
     }
 
     /// Removes the own rule at a place, counted from 0; later ones move down by one.
     pub fn strike(&mut self, place: usize) -> Result<(), Refusal>
         ensures { Stepped (Step.Strike place) self.old self.new result }
     {
-        if !self.own.remove(place) {
-            return Err(Refusal::NoOwnRule { place });
+        match self.own.remove(place) {
+            Some(_) => Ok(()),
+            None => Err(Refusal::NoOwnRule { place }),
         }
-        Ok(())
     }
 
     /// Puts a part among the wanted.

@@ -1,23 +1,18 @@
-// Rules made from numbers.
+// Rules made from their parts, and from numbers.
 ghost use Rattle.sets.specs.Numbers.{set_of};
+ghost use Rattle.checking.specs.Kinds.{number_of};
 ghost use Rattle.checking.specs.Rules.{Made};
 
-use crate::refusal::Refusal;
-use crate::rule::Rule;
+use crate::rule::{Kind, Rule};
+use refusals::Refusal;
 use sets::parts::{Bits, Parts};
 
 impl Rule {
     /// The rule of a kind and three sets.
-    pub fn new(kind: u8, heads: Parts, needs: Parts, absences: Parts) -> Result<Rule, Refusal>
-        ensures { Made kind heads needs absences result }
+    pub fn of(kind: Kind, heads: Parts, needs: Parts, absences: Parts) -> Result<Rule, Refusal>
+        ensures { Made (number_of kind) heads needs absences result }
     {
-        let count = heads.count();
-        let suits = match kind {
-            0 => count <= 1,
-            1 | 2 => count >= 2,
-            _ => false,
-        };
-        if !suits {
+        if !kind.suits(heads) {
             return Err(Refusal::UnfitKind);
         }
         Ok(Rule {
@@ -28,7 +23,16 @@ impl Rule {
         })
     }
 
-    /// The same, each set given by its number.
+    // By its number, since a caller may have any byte: a narrower type would ask more of it.
+
+    /// The same, the kind given by its number.
+    pub fn new(kind: u8, heads: Parts, needs: Parts, absences: Parts) -> Result<Rule, Refusal>
+        ensures { Made kind heads needs absences result }
+    {
+        Rule::of(Kind::try_from(kind)?, heads, needs, absences)
+    }
+
+    /// The same, the kind and each set given by its number.
     pub fn from_numbers(kind: u8, heads: Bits, needs: Bits, absences: Bits) -> Result<Rule, Refusal>
         ensures { Made kind (set_of heads) (set_of needs) (set_of absences) result }
     {
@@ -44,7 +48,7 @@ impl Rule {
     pub(crate) fn blank() -> Rule {
         let none = Parts::none();
         Rule {
-            kind: 0,
+            kind: Kind::Plain,
             heads: none,
             needs: none,
             absences: none,

@@ -4,12 +4,25 @@ ghost use Rattle.sets.specs.Members.{Holds};
 ghost use Rattle.refusals.specs.Refusals.{numbered};
 ghost use Rattle.checking.specs.Calls.{free, wanted, barred};
 ghost use Rattle.checking.specs.Checks.{MeetsWishes, Unmet};
-ghost use Rattle.checking.specs.Enquiries.{wish_of, Rewished};
+ghost use Rattle.checking.specs.Enquiries.{wish_of, Joined, Rewished};
 
 use crate::call::Step;
 use crate::wishes::Wishes;
 use refusals::Refusal;
 use sets::parts::{PARTS, Parts};
+
+// One set of wishes with a part more: refused where there is no such part, and then where the other set has it.
+fn joined(set: Parts, other: Parts, part: u8) -> Result<Parts, Refusal>
+    ensures { Joined set other part result }
+{
+    if part as usize >= PARTS {
+        return Err(Refusal::NoPart { part });
+    }
+    if other.has(part) {
+        return Err(Refusal::Clash { part });
+    }
+    Ok(set.with(part))
+}
 
 impl Wishes {
     // No wishes.
@@ -37,26 +50,14 @@ impl Wishes {
     pub(crate) fn want(&mut self, part: u8) -> Result<(), Refusal>
         ensures { Rewished (Step.Want part) self.old self.new result }
     {
-        if part as usize >= PARTS {
-            return Err(Refusal::NoPart { part });
-        }
-        if self.barred.has(part) {
-            return Err(Refusal::Clash { part });
-        }
-        self.wanted = self.wanted.with(part);
+        self.wanted = joined(self.wanted, self.barred, part)?;
         Ok(())
     }
 
     pub(crate) fn bar(&mut self, part: u8) -> Result<(), Refusal>
         ensures { Rewished (Step.Bar part) self.old self.new result }
     {
-        if part as usize >= PARTS {
-            return Err(Refusal::NoPart { part });
-        }
-        if self.wanted.has(part) {
-            return Err(Refusal::Clash { part });
-        }
-        self.barred = self.barred.with(part);
+        self.barred = joined(self.barred, self.wanted, part)?;
         Ok(())
     }
 

@@ -6,6 +6,8 @@ ghost use Rattle.heads.specs.Orders.{zero_head, at_most, larger as larger_of, Or
 use crate::head::{Head, LARGEST};
 
 impl Head {
+    // As std names it of `f32`: `Head::try_from(2)` could be read as 2 metres.
+
     /// The head of a bit pattern, where it is one.
     pub fn from_pattern(pattern: u32) -> Option<Head>
         ensures { ByPattern pattern result }
@@ -22,8 +24,7 @@ impl Head {
     pub fn metres(self) -> f32
         ensures { result ≡ self.metres }
     {
-        let Head { metres } = self;
-        metres
+        self.metres
     }
 
     /// No head: 0 metres.
@@ -38,7 +39,7 @@ impl Head {
         ensures value { result ≡ at_most self other }
         ensures order { Order }
     {
-        self.metres <= other.metres
+        self <= other
     }
 
     /// The larger of two: the other where they are equal.

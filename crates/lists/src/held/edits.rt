@@ -1,9 +1,9 @@
 // Lists held in place: one item more, one less, the item at a place, all of them.
-ghost use Rattle.std.specs.Prelude.{◌≡◌, ◌<◌, []};
+ghost use Rattle.std.specs.Prelude.{◌≡◌, []};
 ghost use Rattle.std.specs.List.{slice_get};
 ghost use Rattle.lists.specs.Held.{held, Pushed, Removed};
 
-use crate::held::Held;
+use crate::held::{Full, Held};
 
 impl<T: Copy, const N: usize> Held<T, N> {
     /// The empty list; `blank` fills the free places.
@@ -16,40 +16,34 @@ impl<T: Copy, const N: usize> Held<T, N> {
         }
     }
 
-    /// Puts an item last, or answers false where the list is full.
-    pub fn push(&mut self, item: T) -> bool
+    /// Puts an item last; or `Full`, and nothing changes.
+    pub fn push(&mut self, item: T) -> Result<(), Full>
         ensures { Pushed item self.old self.new result }
     {
         if self.count >= N {
-            return false;
+            return Err(Full);
         }
         self.items[self.count] = item;
         self.count += 1;
-        true
+        Ok(())
     }
 
-    /// Removes the item at a place, counted from 0, and moves the later ones down by one; or answers false where there is none.
-    pub fn remove(&mut self, place: usize) -> bool
+    /// Removes and gives the item at a place, counted from 0, and moves the later ones down by one; or `None`, and nothing changes.
+    pub fn remove(&mut self, place: usize) -> Option<T>
         ensures { Removed place self.old self.new result }
     {
-        if place >= self.count {
-            return false;
-        }
+        let item = self.at(place)?;
+        let items = &mut self.items[..];
+        items[place..self.count].rotate_left(1);
         self.count -= 1;
-        for i in place..self.count {
-            self.items[i] = self.items[i + 1];
-        }
-        true
+        Some(item)
     }
 
     /// The item at a place, counted from 0.
     pub fn at(&self, place: usize) -> Option<T>
         ensures { result ≡ slice_get (held self.now) place }
     {
-        if place >= self.count {
-            return None;
-        }
-        Some(self.items[place])
+        self.items().get(place).copied()
     }
 
     /// All items.

@@ -8,6 +8,8 @@ ghost use Rattle.sets.specs.Counting.{size, Counting};
 use crate::parts::{Bits, PARTS, Parts};
 
 impl Parts {
+    // `from_bits` and `to_bits`, as std names those of `f32`: `Parts::from(5)` could be read as the set of part 5.
+
     /// The set that a number stands for. Every number stands for one.
     pub fn from_bits(bits: Bits) -> Parts
         ensures number { result.bits ≡ bits }
@@ -58,6 +60,8 @@ impl Parts {
         self.minus(Parts::none().with(part))
     }
 
+    // Three operators with three promises: a function over the operator would have to be told it, and to promise by it.
+
     /// The parts of either.
     pub fn union(self, other: Parts) -> Parts
         ensures { Holds result (λ p. Has self p ⊎ Has other p) }
@@ -105,6 +109,8 @@ impl Parts {
     {
         self.bits == 0
     }
+
+    // The derived `==`, which promises an equation, and besides what that means for the parts.
 
     /// Whether two sets are equal: they are when they have the same parts.
     pub fn same(self, other: Parts) -> bool

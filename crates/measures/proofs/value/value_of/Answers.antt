@@ -1,24 +1,21 @@
-use Rattle.std.proofs.Common.{sym, ◌∙◌, arith}
-use Rattle.std.proofs.lemmas.Bool.Decides.{not_from_Decides}
-use Rattle.measures.proofs.Folding.{value_none, value_more, value_kept, value_all, value_law}
+use Rattle.std.proofs.Common.{List, ℕ, fold, sym, ap, ◌∙◌}
+use Rattle.sets.specs.declared.parts.Parts.{Parts}
+use Rattle.sets.specs.Steps.{in_order}
+use Rattle.measures.proofs.Folding.{value_folded, first_folded, value_law}
 use Rattle.measures.proofs.value.value_of.Goals as goal
-use Rattle.measures.proofs.value.value_of.Goals.{then-has, else-has}
 
 pub loop-part-init : goal.loop-part-init
-loop-part-init g c = c.start-value.ensures ∙ sym (value_none (g.M.Measure.scale c.args.measure.now) c.args.outfit)
+loop-part-init g c =
+    let s = g.M.Measure.scale c.args.measure.now in
+    ap (λ (t : Parts). fold s.extend c.start-value.result (in_order t)) c.into_iter-part-iterator.ensures.into_iter_gives
+    ∙ ap (λ v. fold s.extend v (in_order c.args.outfit)) c.start-value.ensures ∙ sym (value_folded s c.args.outfit)
 
 pub loop-part-preserved : goal.loop-part-preserved
 loop-part-preserved g c =
-    let s = g.M.Measure.scale c.args.measure.now in
-    let o = c.args.outfit in
-    let n = c.loop-part.part in
-    let v = c.loop-part.value in
-    elim c.if-has.branch [
-      | then-has w ↦ value_more s o n v w.extend-value.result c.if-has.value (c.has.ensures.0 w.if-has.true) c.loop-part.invariant w.extend-value.ensures w.value-is
-      | else-has w ↦ value_kept s o n v c.if-has.value (not_from_Decides c.has.result c.has.ensures w.if-has.false) c.loop-part.invariant w.value-is
-    ]
+    first_folded (g.M.Measure.scale c.args.measure.now) (in_order c.loop-part.part-iterator.rest) (in_order c.next.new.self.rest) c.in-Some.part c.loop-part.value c.extend-value.result _
+    c.in-Some.ensures.steps.1 c.extend-value.ensures c.loop-part.invariant
 
 pub returns : goal.returns
 returns g c =
     let s = g.M.Measure.scale c.args.measure.now in
-    record { value = value_all s c.args.outfit c.loop-part.part c.loop-part.value c.loop-part.invariant (omega arith); law = value_law s }
+    record { value = sym (ap (λ (ps : List ℕ). fold s.extend c.loop-part.value ps) c.in-None.ensures.steps.1.0) ∙ c.loop-part.invariant; law = value_law s }

@@ -12,25 +12,25 @@ use Rattle.checking.proofs.book.walk.append.Goals as goal
 long : (a b xs : List Rule) (i : ℕ) → a ≡ b ++ take i xs → i ≤ length xs → length a ≡ length b + i
 long a b xs i e l = ap length e ∙ length-append b (take i xs) ∙ ap (λ n. length b + n) (length-take-le i xs l)
 
-pub loop-rule-smaller : goal.loop-rule-smaller
-loop-rule-smaller g c =
-    let all = (g.B.Book.meaning c.args.book.now).rules in
-    let l = nth_below all c.loop-rule.place c.in-Some.rule (sym {b = slice_get all c.loop-rule.place} c.in-Some.ensures) in
-    omega arith
-
-pub loop-rule-preserved : goal.loop-rule-preserved
-loop-rule-preserved g c =
+pub loop-place-preserved : goal.loop-place-preserved
+loop-place-preserved g c =
     let all = (g.B.Book.meaning c.args.book.now).rules in
     let was = held c.args.rules.now in
-    let i = c.loop-rule.place in
+    let i = c.loop-place.place in
     let x = c.in-Some.rule in
     let e = sym {b = slice_get all i} c.in-Some.ensures in
     let l = nth_below all i x e in
-    let room : length (held c.loop-rule.rules) < most_in_force = omega (arith, long (held c.loop-rule.rules) was all i c.loop-rule.invariant.0 c.loop-rule.invariant.1, c.requires) in
-    let more = pushed x c.loop-rule.rules c.push.new.self c.push.result room c.push.ensures in
-    (more ∙ ap (λ t. t ++ x ∷ []) c.loop-rule.invariant.0 ∙ append_assoc was (take i all) (x ∷ []) ∙ ap (λ t. was ++ t) (sym (take_nth all i x e)), omega arith)
+    let room : length (held c.loop-place.rules) < most_in_force = omega (arith, long (held c.loop-place.rules) was all i c.loop-place.invariant.0 c.loop-place.invariant.1, c.requires) in
+    let more = pushed x c.loop-place.rules c.push.new.self c.push.result room c.push.ensures in
+    (more ∙ ap (λ t. t ++ x ∷ []) c.loop-place.invariant.0 ∙ append_assoc was (take i all) (x ∷ []) ∙ ap (λ t. was ++ t) (sym (take_nth all i x e)), omega arith)
+
+-- a place that the list does not reach
+pub returns-in_default : goal.returns-in_default
+returns-in_default g c =
+    let all = (g.B.Book.meaning c.args.book.now).rules in
+    c.loop-place.invariant.0 ∙ ap (λ t. held c.args.rules.now ++ t) (take_all c.loop-place.place all (none_past all c.loop-place.place (sym {b = slice_get all c.loop-place.place} c.in_default.ensures)))
 
 pub returns : goal.returns
 returns g c =
-    let all = (g.B.Book.meaning c.args.book.now).rules in
-    c.loop-rule.invariant.0 ∙ ap (λ t. held c.args.rules.now ++ t) (take_all c.loop-rule.place all (none_past all c.loop-rule.place (sym {b = slice_get all c.loop-rule.place} c.in_default.ensures)))
+    let book = g.B.Book.meaning c.args.book.now in
+    c.loop-place.invariant.0 ∙ ap (λ t. held c.args.rules.now ++ t) (take_all c.loop-place.place book.rules (omega (arith, book.few, c.loop-place-test.false)))

@@ -1,9 +1,7 @@
-use Rattle.sets.specs.Counting.{size}
+use Rattle.std.proofs.Common.{◌≡◌, length}
+use Rattle.sets.specs.Width.{how_many}
 use Rattle.checking.proofs.Noting.{Noting}
 use Rattle.checking.proofs.justification.rounds.note.Given as goal
 
-abbrev pub invariant-parts : goal.invariant-parts
-invariant-parts l = Noting l.initial.rest l.rest l.rule l.initial.lowest l.lowest
-
-abbrev pub decreases-parts : goal.decreases-parts
-decreases-parts l = size l.rest
+abbrev pub invariant-loop-part : goal.invariant-loop-part
+invariant-loop-part l = Noting l.fn.parts l.part-iterator.rest l.rule l.initial.lowest l.lowest × (length l.lowest ≡ how_many)

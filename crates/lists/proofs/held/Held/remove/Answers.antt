@@ -1,23 +1,27 @@
-use Rattle.std.proofs.Common.{◌≡◌, ℕ, ◌+◌, length, take, refl, ap, ◌∙◌, arith}
+use Rattle.std.proofs.Common.{◌≡◌, length, sym, ◌∙◌, arith, rules}
 use Rattle.std.proofs.lemmas.List.{length-take-le}
-use Rattle.lists.specs.Held.{held, without}
-use Rattle.lists.proofs.Closing.{closing_none, closing_more}
-use Rattle.lists.proofs.Less.{is_less}
+use Rattle.std.proofs.lemmas.Option.{slice_get_within}
+use Rattle.lists.specs.Held.{held}
+use Rattle.lists.proofs.Less.{turned, moved_down}
 use Rattle.lists.proofs.held.Held.remove.Goals as goal
 
-pub loop-i-init : goal.loop-i-init
-loop-i-init g c = let h = c.args.self.now in (refl, closing_none h.items c.args.place (omega (arith, h.room, h.few)))
+pub offset_bounds-items-place : goal.offset_bounds-items-place
+offset_bounds-items-place g c = let l = slice_get_within (held c.args.self.now) c.args.place _ (sym c.at.ensures ∙ c.in_ok-item.was) in search rules
 
-pub loop-i-preserved : goal.loop-i-preserved
-loop-i-preserved g c =
-    let h = c.args.self.now in
-    (c.loop-i.invariant.0, closing_more h.items c.args.place c.loop-i.i c.loop-i.self.items c.index-self-i.result (omega arith) (omega (arith, h.room, h.few)) c.loop-i.invariant.1)
+pub slice_bounds-rotate_left-count : goal.slice_bounds-rotate_left-count
+slice_bounds-rotate_left-count g c = let l = slice_get_within (held c.args.self.now) c.args.place _ (sym c.at.ensures ∙ c.in_ok-item.was) in search rules
+
+pub slice_bounds-rotate_left-start : goal.slice_bounds-rotate_left-start
+slice_bounds-rotate_left-start g c = let l = slice_get_within (held c.args.self.now) c.args.place _ (sym c.at.ensures ∙ c.in_ok-item.was) in search rules
+
+pub rotate_left-requires : goal.rotate_left-requires
+rotate_left-requires g c = let l = slice_get_within (held c.args.self.now) c.args.place _ (sym c.at.ensures ∙ c.in_ok-item.was) in search rules
 
 pub returns : goal.returns
 returns g c =
     let h = c.args.self.now in
-    let k : length (take h.count h.items) ≡ h.count = length-take-le h.count h.items (omega (arith, h.room, h.few)) in
-    let same : c.loop-i.self.count ≡ c.loop-i.i = omega (arith, c.loop-i.invariant.0) in
-    let all : c.loop-i.i + 1 ≡ h.count = omega (arith, c.loop-i.invariant.0) in
-    is_less (held h) (held c.loop-i.self) c.args.place (omega arith)
-    (ap (λ (n : ℕ). take n c.loop-i.self.items) same ∙ c.loop-i.invariant.1.moved ∙ ap (λ (n : ℕ). without c.args.place (take n h.items)) all)
+    let at = sym c.at.ensures ∙ c.in_ok-item.was in
+    let l = slice_get_within (held h) c.args.place _ at in
+    let k : length (held h) ≡ h.count = length-take-le h.count h.items (omega (arith, h.room, h.few)) in
+    let t = turned h.items c.rotate_left.new.self c.args.place h.count (omega arith) (omega (arith, h.room, h.few)) c.rotate_left.ensures.after in
+    (sym at, (l, t, rw t (moved_down (held h) c.args.place l)))

@@ -1,6 +1,5 @@
-use Rattle.std.proofs.Common.{refl}
 use Rattle.sets.proofs.Counts.{counting}
 use Rattle.sets.proofs.parts.Parts.count.Goals as goal
 
-pub returns : goal.returns
-returns c = record { value = refl; counting = counting }
+pub returns-clause-counting : goal.returns-clause-counting
+returns-clause-counting c = counting

@@ -1,6 +1,6 @@
-use Rattle.std.proofs.Common.{sym, refl}
+use Rattle.std.proofs.Common.{sym}
 use Rattle.sets.proofs.Sets.{same_set}
 use Rattle.sets.proofs.parts.Parts.from_bits.Goals as goal
 
-pub returns : goal.returns
-returns c = record { number = refl; value = sym (same_set _) }
+pub returns-clause-value : goal.returns-clause-value
+returns-clause-value c = sym (same_set _)

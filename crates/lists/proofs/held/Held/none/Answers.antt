@@ -1,6 +1,0 @@
-use Rattle.std.proofs.Common.{zero-le}
-use lib.ListN.{length-replicate}
-use Rattle.lists.proofs.held.Held.none.Goals as goal
-
-pub invariant_of-result : goal.invariant_of-result
-invariant_of-result g c = record { room = length-replicate g.row.N c.args.blank; few = zero-le }

@@ -1,0 +1,3 @@
+mod Suiting
+mod Heading
+mod Writing
