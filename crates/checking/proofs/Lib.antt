@@ -6,7 +6,5 @@ pub mod Turns
 pub mod Bytes
 pub mod Faults
 pub mod Single
-pub mod Wished
 pub mod Objections
-pub mod Course
 pub mod History

@@ -1,63 +1,54 @@
 -- From what was found to the answer of a check, and that there is one answer. Assumes nothing.
-use Rattle.std.proofs.Common.{◌≡◌, ℕ, List, length, is_ok, Ok, Err, Decides, Result, sym, refl, ap, ◌∙◌, subst}
-use Rattle.std.proofs.lemmas.Bool.{false≢true}
+use Rattle.std.proofs.Common.{◌≡◌, ℕ, List, length, is_ok, Result, arith}
+use Rattle.std.proofs.lemmas.Bool.Decides.{Decides-like}
 use Rattle.sets.specs.declared.parts.Parts.{Parts}
 use Rattle.refusals.specs.declared.Refusal.{Refusal}
-use Rattle.refusals.specs.Refusals.{Code, numbered}
-use Rattle.refusals.proofs.Telling.{told_apart}
+use Rattle.refusals.specs.Refusals.{Code}
+use Rattle.checking.specs.Justification.{Written}
+use Rattle.checking.specs.Laws.{Laws}
 use Rattle.checking.specs.declared.rule.Rule.{Rule}
 use Rattle.checking.specs.Calls.{Wish, State}
-use Rattle.checking.specs.Checks.{Missing, Present, missing, present, MeetsWishes, Unmet, rules_in_force, Objection, by_rules, by_wishes, Checked, Passes, PassesByRounds, Check}
-use Rattle.checking.specs.Verdicts.{Passing}
+use Rattle.checking.specs.Checks.{MeetsWishes, Unmet, rules_in_force, Objection, by_rules, by_wishes, Checked, Passes, Check, OneCheck}
 use Rattle.checking.proofs.Layers.{valid_by_rounds}
 use Rattle.checking.proofs.Faults.{fault_invalid}
-use Rattle.checking.proofs.Single.{one_lowest, one_fault, one_written}
+use Rattle.checking.proofs.Single.{one_fault, one_written, one_answer, decided, laws}
 
 unmet_not : (wish : ℕ → Wish) (c : Parts) (code : Code) → Unmet wish c code → MeetsWishes wish c → ⊥
-unmet_not wish c code (missing p l e) m = l.0.1 (m.0 p l.0.0)
-unmet_not wish c code (present none p l e) m = m.1 p l.0.0 l.0.1
+unmet_not wish c code u m = grind arith
 
 one_unmet : (wish : ℕ → Wish) (c : Parts) (x y : Code) → Unmet wish c x → Unmet wish c y → x ≡ y
-one_unmet wish c x y (missing p l e) (missing q m f) = e ∙ ap (λ (z : ℕ). (56, z)) (one_lowest (Missing wish c) p q l m) ∙ sym f
-one_unmet wish c x y (missing p l e) (present none q m f) = absurd (none p l.0)
-one_unmet wish c x y (present none p l e) (missing q m f) = absurd (none q m.0)
-one_unmet wish c x y (present none p l e) (present no_other q m f) = e ∙ ap (λ (z : ℕ). (57, z)) (one_lowest (Present wish c) p q l m) ∙ sym f
+one_unmet wish c x y u v = grind arith
 
-module _ (rules : List Rule) (wish : ℕ → Wish) (c : Parts) where
+module _ (book : List Rule) (s : State) (c : Parts) (room : ℕ) where
+  abbrev Objected : Code → Type 0
+  Objected x = Objection (rules_in_force book s) s.wish c room x
+
   -- what is refused does not pass
-  objection_fails : (room : ℕ) (code : Code) → Objection rules wish c room code → Passing rules c room → MeetsWishes wish c → ⊥
-  objection_fails room code (by_rules f) v m = fault_invalid rules c room code f v
-  objection_fails room code (by_wishes p u) v m = unmet_not wish c code u m
+  objection_fails : (x : Code) → Objected x → Passes book s c room → ⊥
+  objection_fails x (by_rules f) v = fault_invalid (rules_in_force book s) c room x f (v.0, v.1.0)
+  objection_fails x (by_wishes p u) v = unmet_not s.wish c x u v.1.1
 
-  one_objection : (room : ℕ) (x y : Code) → Objection rules wish c room x → Objection rules wish c room y → x ≡ y
-  one_objection room x y (by_rules f) (by_rules g) = one_fault rules c room x y f g
-  one_objection room x y (by_rules f) (by_wishes p u) = absurd (fault_invalid rules c room x f p)
-  one_objection room x y (by_wishes p u) (by_rules g) = absurd (fault_invalid rules c room y g p)
-  one_objection room x y (by_wishes p u) (by_wishes q v) = one_unmet wish c x y u v
+  one_objection : (x y : Code) → Objected x → Objected y → x ≡ y
+  one_objection x y (by_rules f) (by_rules g) = one_fault (rules_in_force book s) c room x y f g
+  one_objection x y (by_rules f) (by_wishes p u) = absurd (fault_invalid (rules_in_force book s) c room x f p)
+  one_objection x y (by_wishes p u) (by_rules g) = absurd (fault_invalid (rules_in_force book s) c room y g p)
+  one_objection x y (by_wishes p u) (by_wishes q v) = one_unmet s.wish c x y u v
 
-module _ (book : List Rule) (s : State) (c : Parts) where
-  refused_fails : (room : ℕ) (e : Refusal) → Objection (rules_in_force book s) s.wish c room (numbered e) → Passes book s c room → ⊥
-  refused_fails room e o v = objection_fails (rules_in_force book s) s.wish c room (numbered e) o (v.0, v.1.0) v.1.1
+one_check : OneCheck
+one_check book s c old = one_answer _ _ _ (objection_fails book s c (length old)) old (one_written (rules_in_force book s) c old) (one_objection book s c (length old))
 
-  pub one_check : (old new other : List ℕ) (r t : Result ℕ Refusal) → Checked book s c old new r → Checked book s c old other t → (r ≡ t) × (new ≡ other)
-  one_check old new other (Ok m) (Ok n) a b = let w = one_written (rules_in_force book s) c m n old new other a.1 b.1 in (ap Ok w.0, w.1)
-  one_check old new other (Ok m) (Err f) a b = absurd (refused_fails (length old) f b.0 a.0)
-  one_check old new other (Err e) (Ok n) a b = absurd (refused_fails (length old) e a.0 b.0)
-  one_check old new other (Err e) (Err f) a b = (ap Err (told_apart e f (one_objection (rules_in_force book s) s.wish c (length old) (numbered e) (numbered f) a.0 b.0)), a.1 ∙ sym b.1)
-
-  check_passes : (old new : List ℕ) (r : Result ℕ Refusal) → Checked book s c old new r → Decides (is_ok r) (Passes book s c (length old))
-  check_passes old new (Ok n) v = (λ t. v.0, λ h. refl)
-  check_passes old new (Err e) v = (λ t. absurd (false≢true t), λ h. absurd (refused_fails (length old) e v.0 h))
-
-  check_rounds : (old new : List ℕ) (r : Result ℕ Refusal) → Checked book s c old new r → Decides (is_ok r) (PassesByRounds book s c (length old))
-  check_rounds old new r v =
-      let p = check_passes old new r v in
-      let b = valid_by_rounds (rules_in_force book s) c in
-      (λ t. let h = p.0 t in let k = b.0 h.1.0 in ((h.0, k.0, k.1), h.1.1), λ h. p.1 (h.0.0, (b.1 (h.0.1, h.0.2), h.1)))
-
-  pub check : (old new : List ℕ) (r : Result ℕ Refusal) → Checked book s c old new r → Check book s c old new r
-  check old new r v = record { verdict = v; passes = check_passes old new r v; rounds = check_rounds old new r v }
-
-  -- a refusal that is handed on, with the buffer as it was
-  pub check_refused : (old : List ℕ) (r : Result ℕ Refusal) (e : Refusal) → r ≡ Err e → Objection (rules_in_force book s) s.wish c (length old) (numbered e) → Check book s c old old r
-  check_refused old r e is o = check old old r (subst (λ (x : Result ℕ Refusal). Checked book s c old old x) (sym is) (o, refl))
+-- all that a check promises
+pub checked : (book : List Rule) (s : State) (c : Parts) (old new : List ℕ) (r : Result ℕ Refusal) → Checked book s c old new r
+    → record { answer : Check book s c old new r; laws : Laws; one_check : OneCheck }
+checked book s c old new r v =
+    let p = decided _ (λ n is. Written (rules_in_force book s) c n old is) _ (objection_fails book s c (length old)) old new r v in
+    let b = valid_by_rounds (rules_in_force book s) c in
+    record {
+      answer = record {
+        verdict = v;
+        passes = p;
+        rounds = Decides-like (is_ok r) (λ h. let k = b.0 h.1.0 in ((h.0, k.0, k.1), h.1.1)) (λ h. (h.0.0, (b.1 (h.0.1, h.0.2), h.1))) p;
+      };
+      laws = laws;
+      one_check = one_check;
+    }

@@ -1,7 +1,6 @@
 -- What an enquiry holds: when it is opened, after a step, after a list of calls. Assumes nothing.
-use Rattle.std.specs.Prelude.{◌≡◌, ℕ, ◌/◌, ◌%◌, ◌^◌, ◌<◌, ◌≤◌, ◌⊎◌, Bool, cond, List, [], ◌==◌, Result, MatchResult}
+use Rattle.std.specs.Prelude.{◌≡◌, ℕ, ◌/◌, ◌%◌, ◌^◌, ◌⊎◌, Bool, cond, List, [], ◌==◌, Result, MatchResult}
 use Rattle.sets.specs.declared.parts.Parts.{Parts}
-use Rattle.sets.specs.Width.{how_many}
 use Rattle.sets.specs.Members.{Has, Holds}
 use Rattle.lists.specs.Held.{held}
 use Rattle.refusals.specs.declared.Refusal.{Refusal}
@@ -28,11 +27,10 @@ pub record Wishing (wish : ℕ → Wish) (wants bars : Parts) : Type 0 where
   pub wanting : Holds wants (λ p. wish p ≡ wanted)
   pub barring : Holds bars (λ p. wish p ≡ barred)
 
--- one set of wishes with a part more: refused with 41 where there is no such part, and then with 42 where the other set has it
+-- one set of wishes with a part more: refused with 42 where the other set has it
 abbrev pub Joined : Parts → Parts → ℕ → Result Parts Refusal → Type 0
 Joined set other part r =
-    MatchResult r (λ s. (part < how_many) × (Has other part → ⊥) × Holds s (λ p. Has set p ⊎ (p ≡ part)))
-    (λ e. ((how_many ≤ part) × (numbered e ≡ (41, part))) ⊎ ((part < how_many) × Has other part × (numbered e ≡ (42, part))))
+    MatchResult r (λ s. (Has other part → ⊥) × Holds s (λ p. Has set p ⊎ (p ≡ part))) (λ e. Has other part × (numbered e ≡ (42, part)))
 
 -- a state of wishes alone
 abbrev pub only : (ℕ → Wish) → State

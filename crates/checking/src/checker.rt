@@ -66,6 +66,8 @@ impl Case {
     }
 }
 
+// The buffer is the caller's, since no step may ask for memory, and how much of it is written is the answer.
+
 /// Judges an outfit, given by its number, by the rules of a book. Where it is valid, its justification is written at the front of the
 /// buffer, and the answer is the number of its parts; on a refusal the buffer is as it was.
 pub fn judge<B: Book>(book: &B, outfit: Bits, buffer: &mut [u8]) -> Result<usize, Refusal>

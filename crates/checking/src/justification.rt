@@ -17,7 +17,14 @@ pub struct Entry {
     pub rule: u8,
 }
 
-// The parts that have a round, and an entry for each.
+// The parts of one round, and for each, at its number, the lowest rule that brings it; in place, since no step may ask for memory.
+#[derive(Clone, Copy)]
+pub(crate) struct Layer {
+    parts: Parts,
+    lowest: [u8; PARTS],
+}
+
+// The parts that have a round, and an entry for each; the set tells at once whether a part has one.
 #[derive(Drop)]
 pub(crate) struct Derivation {
     reached: Parts,

@@ -3,7 +3,7 @@
 #![tactic(auto)]
 
 use crate::printing::Told;
-use crate::script::{BRAKED, COUNT, calls};
+use crate::script::{BRAKED, calls};
 use checking::book::Book;
 use checking::call::Call;
 use checking::checker::ROOM;
@@ -38,7 +38,7 @@ fn print_check<B: Book, M: Measure>(
     }
 }
 
-// Makes a call, and prints it with its answer.
+// Makes a call, and prints it with its answer. Calls are data, as the script has them, and not closures.
 fn make<B: Book, M: Measure>(
     rt: &HostRuntime,
     enquiry: &mut Enquiry<B, M>,

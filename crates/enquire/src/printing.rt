@@ -54,6 +54,7 @@ pub(crate) fn refusal(rt: &HostRuntime, refusal: Refusal) -> io::Result<()> {
     println!(rt; "  refused {refusal}")
 }
 
+// Worded by this program; the lines are printed alike in both.
 pub(crate) fn justification(rt: &HostRuntime, bytes: &[u8], parts: usize) -> io::Result<()> {
     println!(rt; "  passed, {parts} parts")?;
     let lines = Lines {

@@ -6,7 +6,7 @@ use mill::fittings::{AXIAL, BRAKE, CROSS, FLOATGATE, GEARBOX, LIFTGATE, MILL};
 use refusals::Refusal;
 use sets::parts::Bits;
 
-pub(crate) const COUNT: usize = 24;
+const COUNT: usize = 24;
 
 const LIFTED: Bits = MILL | CROSS | LIFTGATE | GEARBOX;
 

@@ -16,6 +16,7 @@ const OUTFITS: [Bits; 3] = [
     MILL | AXIAL | LIFTGATE | BRAKE | GEARBOX,
 ];
 
+// Each kind of refusal in words of its own: this program's output.
 fn print_refusal(rt: &HostRuntime, refusal: Refusal) -> io::Result<()> {
     let (number, _) = refusal.code();
     match refusal {
@@ -29,6 +30,7 @@ fn print_refusal(rt: &HostRuntime, refusal: Refusal) -> io::Result<()> {
     }
 }
 
+// Worded by this program; the lines are printed alike in both.
 fn print_justification(rt: &HostRuntime, bytes: &[u8], parts: usize) -> io::Result<()> {
     println!(rt; "valid, {parts} parts")?;
     let lines = Lines {

@@ -1,20 +1,10 @@
 -- What stands at a place of a list. Assumes nothing.
-use Rattle.std.proofs.Common.{◌≡◌, ℕ, ◌+◌, ◌-◌, ◌<◌, ◌≤◌, ◌⊎◌, List, [], ◌∷◌, ◌++◌, length, take, Some, None, ap, ◌∙◌, arith}
+use Rattle.std.proofs.Common.{◌≡◌, ℕ, ◌+◌, ◌-◌, ◌≤◌, ◌⊎◌, List, [], ◌∷◌, ◌++◌, length, take, Some, ap, ◌∙◌, arith}
 use Rattle.std.proofs.lemmas.List.{take_more, places}
-use Rattle.std.proofs.lemmas.Option.{gets, none-some, slice_get_within, slice_get_cases, get_or_from_slice_get}
+use Rattle.std.proofs.lemmas.Option.{gets, slice_get_within, slice_get_cases, get_or_from_slice_get}
 use Rattle.std.specs.List.{slice_get}
 
 module _ {X : Type 0} where
-  pub nothing : (x : X) → None ≡ Some x → ⊥
-  nothing = none-some
-
-  pub nth_below : (xs : List X) (i : ℕ) (x : X) → slice_get xs i ≡ Some x → i < length xs
-  nth_below = slice_get_within
-
-  -- no item at a place from the length on
-  pub none_past : (xs : List X) (i : ℕ) → slice_get xs i ≡ None → length xs ≤ i
-  none_past xs i e = grind (arith, slice_get_cases xs i)
-
   -- an item of two lists, one after the other
   pub nth_front : (xs ys : List X) (i : ℕ) (x : X) → slice_get xs i ≡ Some x → slice_get (xs ++ ys) i ≡ Some x
   nth_front xs ys i x e = let l = slice_get_within xs i x e in let g = get_or_from_slice_get xs i x x e in grind (arith, gets, places)

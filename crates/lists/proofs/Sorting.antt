@@ -1,7 +1,7 @@
 -- Sorted lists. Assumes nothing.
 use Rattle.std.proofs.Common.{◌≡◌, ℕ, zero, suc, ◌<◌, List, [], ◌∷◌, Some, sym, refl, subst, arith}
 use Rattle.std.specs.List.{slice_get}
-use Rattle.lists.proofs.Nths.{nothing}
+use Rattle.std.proofs.lemmas.Option.{none-some}
 
 -- two sorted lists of the same items are equal
 module _ {X : Type 0} (R : X → X → Type 0) (asym : (a b : X) → R a b → R b a → ⊥) where
@@ -23,8 +23,8 @@ module _ {X : Type 0} (R : X → X → Type 0) (asym : (a b : X) → R a b → R
 
   pub one_list : (xs ys : List X) → Sorted xs → Sorted ys → ((x : X) → In x xs → In x ys) → ((x : X) → In x ys → In x xs) → xs ≡ ys
   one_list [] [] s t to from = refl
-  one_list [] (y ∷ ys) s t to from = absurd (nothing y (from y (0, refl)).1)
-  one_list (x ∷ xs) [] s t to from = absurd (nothing x (to x (0, refl)).1)
+  one_list [] (y ∷ ys) s t to from = absurd (none-some y (from y (0, refl)).1)
+  one_list (x ∷ xs) [] s t to from = absurd (none-some x (to x (0, refl)).1)
   one_list (x ∷ xs) (y ∷ ys) s t to from =
       go (λ same. one_list xs ys (λ i j a b l. s (suc i) (suc j) a b (omega arith)) (λ i j a b l. t (suc i) (suc j) a b (omega arith))
       (tail x y xs ys same s to) (tail y x ys xs (sym same) t from))

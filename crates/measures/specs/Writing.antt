@@ -1,9 +1,8 @@
 -- Cards written: one for each part. Assumes nothing.
-use Rattle.std.specs.Prelude.{◌≡◌, ℕ, ◌<◌, ◌≤◌, Some, None, Ok, Err, Option, MatchOption, ◌≢◌}
+use Rattle.std.specs.Prelude.{◌≡◌, ℕ, ◌<◌, ◌≤◌, Some, Ok, Option, MatchOption, ◌≢◌}
 use Rattle.std.specs.List.{slice_get}
 use Rattle.std.specs.Option.{option_map}
 use Rattle.sets.specs.Width.{how_many}
-use Rattle.refusals.specs.declared.Refusal.{Refusal}
 use Rattle.refusals.specs.Refusals.{Answer, Refused}
 use Rattle.measures.specs.declared.sheet.Sheet.{Sheet}
 
@@ -35,9 +34,3 @@ module _ {S X : Type 0} (card : S → ℕ → Option X) where
     pub done : part < how_many → n ≤ limit → (r ≡ Ok tt) × ((x : X) × Shows x n × Put part x was is)
     pub no_part : how_many ≤ part → Refused r (41, part) × (is ≡ was)
     pub out_of_range : part < how_many → limit < n → Refused r (code, part) × (is ≡ was)
-
--- a card is written: refused where there is no such part, and then, with the given refusal, where there is no card
-pub record Written {X : Type 0} (part : ℕ) (x : Option X) (e : Refusal) (was is : Sheet X) (r : Answer) : Type 0 where
-  pub done : (y : X) → part < how_many → x ≡ Some y → (r ≡ Ok tt) × Put on part y was is
-  pub no_part : how_many ≤ part → Refused r (41, part) × (is ≡ was)
-  pub no_card : part < how_many → x ≡ None → (r ≡ Err e) × (is ≡ was)

@@ -9,7 +9,7 @@ use refusals::Refusal;
 /// A card of a sheet: it is made from a number up to a limit, and what it shows is a value that other values are joined with. Where values
 /// start, how they are joined and whether one is at most another is in its meaning, with the laws that these owe.
 pub trait Card: Copy {
-    type Number;
+    type Number: Copy;
 
     type Value: Copy;
 
@@ -29,6 +29,8 @@ pub trait Card: Copy {
 
     // Holds of a value, of what a card shows, and of the two joined.
     ghost Joins: { Self.Value → Self.Value → Self.Value → Type 0 };
+
+    // A function of its own, since `TryFrom` of a head would not say that the number is a bit pattern.
 
     /// The card for a number, where that is not above the limit.
     fn from_number(number: Self::Number) -> Option<Self>
@@ -50,6 +52,8 @@ pub trait Card: Copy {
     fn join(value: Self::Value, card: Self::Value) -> Self::Value
         ensures joined { result ≡ joining.join value card }
         ensures joins { Joins value card result };
+
+    // The laws are about this order; a `PartialOrd` of the values would have to be tied to it besides.
 
     /// Whether one value is at most another.
     fn at_most(a: Self::Value, b: Self::Value) -> bool

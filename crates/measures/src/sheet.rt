@@ -6,9 +6,9 @@ ghost use Rattle.sets.specs.Width.{how_many};
 use crate::card::Card;
 use crate::measure::Measure;
 use refusals::Refusal;
-use sets::parts::PARTS;
+use sets::parts::{PARTS, Part};
 
-/// A sheet: a card for each part.
+/// A sheet: a card for each part, at its number; in place, since no step may ask for memory.
 #[derive(Drop)]
 pub struct Sheet<C> {
     cards: [C; PARTS],
@@ -16,7 +16,7 @@ pub struct Sheet<C> {
 }
 
 impl<C: Card> Sheet<C> {
-    ghost use Rattle.measures.specs.Writing.{Everywhere, SetCard, Written, shown_on};
+    ghost use Rattle.measures.specs.Writing.{Everywhere, SetCard, shown_on};
 
     /// The sheet on which every card shows where values start.
     pub fn new() -> Sheet<C>
@@ -31,7 +31,9 @@ impl<C: Card> Sheet<C> {
     pub fn set(&mut self, part: u8, number: C::Number) -> Result<(), Refusal>
         ensures { SetCard (shown_on C.shown) C.limit C.code C.Shows part (C.number_of number) self.old self.new result }
     {
-        self.write(part, C::from_number(number), C::refusal(part))
+        let place = usize::from(Part::try_from(part)?);
+        self.cards[place] = C::from_number(number).ok_or(C::refusal(part))?;
+        Ok(())
     }
 
     /// What the card of a part shows, or none where there is no such part.
@@ -39,18 +41,6 @@ impl<C: Card> Sheet<C> {
         ensures { result ≡ shown_on C.shown self.now part }
     {
         self.cards.get(part as usize).map(|card| card.value())
-    }
-
-    // Writes a card: refused where there is no such part, and then, with the given refusal, where there is no card.
-    fn write(&mut self, part: u8, card: Option<C>, refusal: Refusal) -> Result<(), Refusal>
-        ensures { Written part card refusal self.old self.new result }
-    {
-        let place = part as usize;
-        if place >= PARTS {
-            return Err(Refusal::NoPart { part });
-        }
-        self.cards[place] = card.ok_or(refusal)?;
-        Ok(())
     }
 }
 

@@ -19,6 +19,8 @@ pub fn value_of<M: Measure>(measure: &M, outfit: Parts) -> M::Value
     value
 }
 
+// By the measure, whose order need not be one of the type of its values.
+
 /// How two values compare: equal where each is at most the other.
 pub fn compare<M: Measure>(measure: &M, a: &M::Value, b: &M::Value) -> Ordering
     ensures { Ranks (M.scale measure.now) a.now b.now result }

@@ -1,3 +1,4 @@
 mod Suiting
+mod Filling
 mod Heading
 mod Writing

@@ -1,5 +1,5 @@
 -- The rules of the mill can be made. Assumes nothing.
-use Rattle.std.proofs.Common.{rules, ℕ, zero, suc, ◌<◌, ◌≤◌, [], ◌∷◌, length, get_or, List, lit≤, arith}
+use Rattle.std.proofs.Common.{rules, ◌≡◌, ℕ, zero, suc, ◌<◌, ◌≤◌, [], ◌∷◌, length, get_or, List, lit≤, arith}
 use Rattle.std.specs.Prelude.{Result, IsOk, Ok, Err}
 use Rattle.std.specs.List.{AllByRecursion}
 use lib.Count.{ones}
@@ -7,25 +7,27 @@ use Rattle.sets.specs.Numbers.{set_of}
 use Rattle.sets.specs.declared.parts.Parts.{Parts}
 use Rattle.sets.specs.Counting.{size}
 use Rattle.refusals.specs.declared.Refusal.{Refusal}
+use Rattle.checking.specs.declared.rule.Kind.{Kind}
+use Rattle.checking.specs.declared.rule.Kind.TheVariants.{Plain, Choice, Exclusive}
 use Rattle.checking.specs.declared.rule.Rule.{Rule}
-use Rattle.checking.specs.Kinds.{Suits}
+use Rattle.checking.specs.Kinds.{number_of, Suits}
 use Rattle.checking.specs.Rules.{Made}
 
--- a rule by the numbers of its kind, heads, needs and absences
+-- a rule by its kind and the numbers of its heads, needs and absences
 abbrev pub Numbers : Type 0
-Numbers = ℕ × ℕ × ℕ × ℕ
+Numbers = Kind × ℕ × ℕ × ℕ
 
 -- its kind fits its heads
 abbrev pub Fit : Numbers → Type 0
-Fit r = Suits r.0 (set_of r.1)
+Fit r = Suits (number_of r.0) (set_of r.1)
 
-requires : (h n a : ℕ) → size (set_of h) ≤ 1 → Fit (0, h, n, a)
+requires : (h n a : ℕ) → size (set_of h) ≤ 1 → Fit (Plain, h, n, a)
 requires h n a few = (lit≤ tt, λ _. few, λ l. absurd (let z : ⊥ = omega (arith, l) in z))
 
-chooses : (h n a : ℕ) → 2 ≤ size (set_of h) → Fit (1, h, n, a)
+chooses : (h n a : ℕ) → 2 ≤ size (set_of h) → Fit (Choice, h, n, a)
 chooses h n a many = (lit≤ tt, λ e. absurd (let z : ⊥ = omega (arith, e) in z), λ _. many)
 
-chooses_one : (h n a : ℕ) → 2 ≤ size (set_of h) → Fit (2, h, n, a)
+chooses_one : (h n a : ℕ) → 2 ≤ size (set_of h) → Fit (Exclusive, h, n, a)
 chooses_one h n a many = (lit≤ tt, λ e. absurd (let z : ⊥ = omega (arith, e) in z), λ _. many)
 
 fit_at : (rows : List Numbers) (i : ℕ) (d : Numbers) → i < length rows → AllByRecursion Fit rows → Fit (get_or rows i d)
@@ -34,7 +36,7 @@ fit_at (r ∷ rows) zero d l fit = fit.0
 fit_at (r ∷ rows) (suc i) d l fit = fit_at rows i d (omega (arith, l)) fit.1
 
 abbrev pub numbers : List Numbers
-numbers = (0, 1, 0, 0) ∷ (1, 6, 1, 0) ∷ (2, 96, 1, 0) ∷ (0, 8, 4, 0) ∷ (0, 16, 2, 8) ∷ (0, 0, 36, 0) ∷ []
+numbers = (Plain, 1, 0, 0) ∷ (Choice, 6, 1, 0) ∷ (Exclusive, 96, 1, 0) ∷ (Plain, 8, 4, 0) ∷ (Plain, 16, 2, 8) ∷ (Plain, 0, 36, 0) ∷ []
 
 pub all_fit : AllByRecursion Fit numbers
 unfolding set_of ones
@@ -50,6 +52,7 @@ all_fit = (
 )
 
 -- where the kinds of all rows fit, the rule of each is made
-pub made : (rows : List Numbers) (i : ℕ) (d : Numbers) (needs absences : Parts) (r : Result Rule Refusal) → AllByRecursion Fit rows → i < length rows → Made (get_or rows i d).0 (set_of (get_or rows i d).1) needs absences r → IsOk r
-made rows i d needs absences (Ok rule) all l m = search rules
-made rows i d needs absences (Err e) all l m = absurd (m.0 (fit_at rows i d l all))
+pub made : (rows : List Numbers) (i : ℕ) (d : Numbers) (heads needs absences : Parts) (r : Result Rule Refusal) → AllByRecursion Fit rows → i < length rows
+    → heads ≡ set_of (get_or rows i d).1 → Made (number_of (get_or rows i d).0) heads needs absences r → IsOk r
+made rows i d heads needs absences (Ok rule) all l same m = search rules
+made rows i d heads needs absences (Err e) all l same m = absurd (m.0 (rw same (fit_at rows i d l all)))

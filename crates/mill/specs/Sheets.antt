@@ -1,5 +1,5 @@
 -- What the parts of the mill cost, and their heads of water. Assumes nothing.
-use Rattle.std.specs.Prelude.{◌≡◌, ℕ, ◌*◌, ◌<◌, Float, [], ◌∷◌, Some, from_bits, slice_index}
+use Rattle.std.specs.Prelude.{◌≡◌, ℕ, ◌*◌, ◌<◌, Float, List, [], ◌∷◌, Some, from_bits, slice_index}
 use Rattle.std.specs.Float.{nan, inf, fin, binary32}
 use Rattle.std.specs.Float.Ieee.{up, down}
 use Rattle.sets.specs.Width.{how_many}
@@ -7,6 +7,11 @@ use Rattle.heads.specs.declared.head.Head.{Head}
 use Rattle.measures.specs.declared.pence.Pence.{Pence}
 use Rattle.measures.specs.declared.sheet.Sheet.{Sheet}
 use Rattle.measures.specs.Sheets.{price_on, head_on}
+use Rattle.measures.specs.Writing.{shown_on}
+
+-- the card of each part shows its number, from part 0; the other parts have number 0
+pub record Filled {X V : Type 0} (show : X → V) (Shows : V → ℕ → Type 0) (numbers : List ℕ) (sheet : Sheet X) : Type 0 where
+  pub card : (p : ℕ) → p < how_many → (x : V) × (shown_on show sheet p ≡ Some x) × Shows x (slice_index numbers p)
 
 -- in pence, from part 0; the other parts cost nothing
 abbrev pub price : ℕ → ℕ

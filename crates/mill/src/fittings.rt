@@ -75,8 +75,7 @@ pub(crate) const FITTINGS: [Fitting; 7] = [
 pub fn name(part: u8) -> &'static str
     ensures { result.now ≡ named part }
 {
-    match FITTINGS.get(part as usize) {
-        Some(fitting) => fitting.name,
-        None => "unnamed",
-    }
+    FITTINGS
+        .get(part as usize)
+        .map_or("unnamed", |fitting| fitting.name)
 }

@@ -21,6 +21,8 @@ impl fmt::Display for Named {
     }
 }
 
+// The number of parts is what a judge answers beside the buffer; to cut the buffer to it, each program would have to prove that it fits.
+
 /// The justification of so many parts, from the front of a buffer: for each a line, after a margin, of its name, round and rule.
 #[derive(Clone, Copy)]
 pub struct Lines<'a> {

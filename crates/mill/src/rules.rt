@@ -3,8 +3,8 @@ ghost use Rattle.mill.specs.Rules.{HasRules};
 
 use crate::fittings::{AXIAL, BRAKE, CROSS, FLOATGATE, GEARBOX, LIFTGATE, MILL};
 use checking::book::typed::TypedBook;
-use checking::rule::Rule;
-use sets::parts::Bits;
+use checking::rule::{Kind, Rule};
+use sets::parts::{Bits, Parts};
 
 // Its rules, by kind, heads, needs and absences:
 // mill <-
@@ -13,13 +13,13 @@ use sets::parts::Bits;
 // gearbox <- cross
 // brake <- axial, not(gearbox)
 // <- cross, floatgate
-const RULES: [(u8, Bits, Bits, Bits); 6] = [
-    (0, MILL, 0, 0),
-    (1, AXIAL | CROSS, MILL, 0),
-    (2, FLOATGATE | LIFTGATE, MILL, 0),
-    (0, GEARBOX, CROSS, 0),
-    (0, BRAKE, AXIAL, GEARBOX),
-    (0, 0, CROSS | FLOATGATE, 0),
+const RULES: [(Kind, Bits, Bits, Bits); 6] = [
+    (Kind::Plain, MILL, 0, 0),
+    (Kind::Choice, AXIAL | CROSS, MILL, 0),
+    (Kind::Exclusive, FLOATGATE | LIFTGATE, MILL, 0),
+    (Kind::Plain, GEARBOX, CROSS, 0),
+    (Kind::Plain, BRAKE, AXIAL, GEARBOX),
+    (Kind::Plain, 0, CROSS | FLOATGATE, 0),
 ];
 
 /// The book of its rules.
@@ -28,7 +28,13 @@ pub fn book() -> TypedBook
 {
     let mut book = TypedBook::open();
     for (kind, heads, needs, absences) in RULES {
-        let rule = Rule::from_numbers(kind, heads, needs, absences).unwrap();
+        let rule = Rule::of(
+            kind,
+            Parts::from_bits(heads),
+            Parts::from_bits(needs),
+            Parts::from_bits(absences),
+        )
+        .unwrap();
         book.enter(rule).unwrap();
     }
     book

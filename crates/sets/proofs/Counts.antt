@@ -1,4 +1,4 @@
--- How many parts a set has, over any width. Assumes nothing.
+-- How many parts a set has, whatever the number of parts. Assumes nothing.
 use Rattle.std.proofs.Common.{◌≡◌, ℕ, ◌^◌, ◌<◌, ◌≤◌, refl, ap, ◌∙◌, inl, inr, arith}
 use lib.Bits.{bit_or}
 use lib.Count.{ones, ones-le}

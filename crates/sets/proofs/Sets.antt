@@ -1,4 +1,4 @@
--- Sets of parts by their members, over any width. Assumes nothing.
+-- Sets of parts by their members, whatever the number of parts. Assumes nothing.
 use Rattle.std.proofs.Common.{◌≡◌, ℕ, zero, suc, ◌^◌, ◌<◌, eqb, ◌⊎◌, Decides, MatchBool, ap, mod-eq_of_lt, pow_pos, arith}
 use denote.Struct.Declared.{one_follows}
 use Rattle.sets.specs.Width.{how_many}

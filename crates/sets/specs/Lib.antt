@@ -1,4 +1,5 @@
 pub mod Width
+pub mod Known
 pub mod Members
 pub mod Numbers
 pub mod Counting

@@ -5,6 +5,7 @@ ghost use Rattle.sets.specs.Width.{how_many};
 pub use self::iter::IntoIter;
 
 mod iter;
+mod known;
 mod sets;
 
 /// The number that stands for a set: part p is in it where the binary digit of place p is 1.
@@ -12,6 +13,13 @@ pub type Bits = u64;
 
 /// How many parts there are: they are numbered from 0.
 pub const PARTS: usize = 64;
+
+/// A part, by its number: there is no other.
+#[derive(Clone, Copy, PartialEq, Eq)]
+pub struct Part {
+    number: u8,
+    ghost known: { number < how_many },
+}
 
 /// A set of parts.
 #[derive(Clone, Copy, PartialEq, Eq)]

@@ -1,5 +1,5 @@
 // Enquiries: the limits of their steps, what is in force, the order of refusals, and calls in blind order.
-use crate::answers::answered;
+use crate::answers::{Code, answered};
 use checking::book::MOST_RULES;
 use checking::book::own::MOST_OWN;
 use checking::book::typed::TypedBook;
@@ -19,12 +19,12 @@ fn empty() -> Priced {
     Enquiry::open(TypedBook::open(), PriceSheet::new())
 }
 
-fn checked(rt: &impl Abort, enquiry: &Priced, outfit: Bits) -> Result<usize, (u8, usize)> {
+fn checked(rt: &impl Abort, enquiry: &Priced, outfit: Bits) -> Result<usize, Code> {
     answered(rt, |buffer| enquiry.check(outfit, buffer))
 }
 
 // Done, or the number and place of the refusal.
-type Answer = Result<(), (u8, usize)>;
+type Answer = Result<(), Code>;
 
 fn done(answer: Result<(), Refusal>) -> Answer {
     answer.map_err(Refusal::code)
@@ -134,7 +134,7 @@ struct Model {
 }
 
 impl Model {
-    // Makes a step, of which a rule has this one head, and answers as an enquiry should.
+    // Makes a step, of which a rule has this one head, and answers as an enquiry should. Steps are data, as the calls that are tried have them.
     fn step(&mut self, step: Step, head: u8) -> Result<Answer, Fail> {
         Ok(match step {
             Step::Add(_) if self.own.len() >= 16 => Err((23, 16)),

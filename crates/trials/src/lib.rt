@@ -10,7 +10,7 @@ mod sheets;
 
 #[cfg(test)]
 mod tests {
-    use crate::answers::answered;
+    use crate::answers::{Code, answered};
     use checking::book::typed::TypedBook;
     use checking::book::{Book, MOST_RULES};
     use checking::checker::{ROOM, judge};
@@ -29,7 +29,7 @@ mod tests {
         Ok(book)
     }
 
-    fn verdict(rt: &impl Abort, book: &TypedBook, outfit: Bits) -> Result<usize, (u8, usize)> {
+    fn verdict(rt: &impl Abort, book: &TypedBook, outfit: Bits) -> Result<usize, Code> {
         answered(rt, |buffer| judge(book, outfit, buffer))
     }
 

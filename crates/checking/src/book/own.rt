@@ -8,6 +8,7 @@ use lists::held::Held;
 /// The most own rules that an enquiry has.
 pub const MOST_OWN: usize = 16;
 
+// At this length alone: a list of any length need not be short enough for a book.
 impl Book for Held<Rule, MOST_OWN> {
     ghost meaning = { own_book };
 

@@ -8,12 +8,12 @@ use crate::book::{Book, MOST_RULES};
 use crate::rule::Rule;
 use lists::held::Held;
 
-// The most rules that are in force at once: those of a book, and up to 16 that are added to them.
-pub(crate) const MOST_IN_FORCE: usize = 256;
+// The most rules that are in force at once: those of a book, and the own rules of an enquiry.
+pub(crate) const MOST_IN_FORCE: usize = MOST_RULES + MOST_OWN;
 
 pub(crate) type InForce = Held<Rule, MOST_IN_FORCE>;
 
-// Walks the book until it answers none.
+// Walks the book, place by place, until it answers none or has given all rules that a book may have: it is known by that question alone.
 pub(crate) fn append<B: Book>(book: &B, rules: &mut InForce)
     requires { length (held rules.old) + length (B.meaning book.now).rules ≤ most_in_force }
     ensures { held rules.new ≡ held rules.old ++ (B.meaning book.now).rules }
@@ -22,7 +22,7 @@ pub(crate) fn append<B: Book>(book: &B, rules: &mut InForce)
         let Some(rule) = book.rule(place) else {
             return;
         };
-        let _ = rules.push(rule);
+        rules.push(rule).unwrap();
     }
 }
 

@@ -13,6 +13,8 @@ use refusals::Refusal;
 use sets::parts::{Bits, Parts};
 
 impl<B: Book, M: Measure> Enquiry<B, M> {
+    // The buffer is the caller's, since no step may ask for memory, and how much of it is written is the answer.
+
     /// Checks an outfit, given by its number. Where it is valid by the rules in force and meets the wishes, its justification is written at
     /// the front of the buffer, and the answer is the number of its parts; on a refusal the buffer is as it was.
     pub fn check(&self, outfit: Bits, buffer: &mut [u8]) -> Result<usize, Refusal>

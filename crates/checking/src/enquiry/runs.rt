@@ -10,7 +10,7 @@ use measures::measure::Measure;
 use refusals::Refusal;
 
 impl<B: Book, M: Measure> Enquiry<B, M> {
-    // Steps are data, which the definition of what a list of calls gives reads too: cases of an enum, and not closures.
+    // Steps and calls are data, which the definition of what a list of calls gives reads too: cases of an enum, and not closures.
 
     /// Makes a step.
     pub fn step(&mut self, step: Step) -> Result<(), Refusal>

@@ -41,11 +41,11 @@ impl<B: Book, M: Measure> Enquiry<B, M> {
     pub fn strike(&mut self, place: usize) -> Result<(), Refusal>
         ensures { Stepped (Step.Strike place) self.old self.new result }
     {
-        match self.own.remove(place) {
-            Some(_) => Ok(()),
-            None => Err(Refusal::NoOwnRule { place }),
-        }
+        self.own.remove(place).ok_or(Refusal::NoOwnRule { place })?;
+        Ok(())
     }
+
+    // Calls that users make: each hands on to the part of the state that it is about.
 
     /// Puts a part among the wanted.
     pub fn want(&mut self, part: u8) -> Result<(), Refusal>

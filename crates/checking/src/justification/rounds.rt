@@ -1,21 +1,35 @@
 // The derivation of an outfit's parts, round by round. Each rule is looked at once in each round.
-ghost use Rattle.std.specs.Prelude.{◌≡◌, ◌<◌, []};
+ghost use Rattle.std.specs.Prelude.{◌≡◌, ◌<◌, ◌⊎◌, []};
 ghost use Rattle.sets.specs.Width.{how_many};
-ghost use Rattle.sets.specs.Members.{Apart, Empty, Has};
+ghost use Rattle.sets.specs.Members.{Apart, Empty, Has, Holds};
 ghost use Rattle.lists.specs.Held.{held};
 ghost use Rattle.checking.specs.Derivations.{Noted, Next, Added, Extended, Derived};
 
 use crate::case::Case;
-use crate::justification::{Derivation, Entry};
+use crate::justification::{Derivation, Entry, Layer};
 use lists::held::Held;
 use sets::parts::{PARTS, Parts};
 
-// Notes the rule for each of the parts.
-fn note(parts: Parts, rule: u8, lowest: &mut [u8; PARTS])
-    ensures { Noted parts rule lowest.old lowest.new }
-{
-    for part in parts {
-        lowest[part as usize] = rule;
+impl Layer {
+    // No parts.
+    fn none() -> Layer
+        ensures { Empty result.parts }
+    {
+        Layer {
+            parts: Parts::none(),
+            lowest: [0; PARTS],
+        }
+    }
+
+    // Puts parts in, each with this rule.
+    fn note(&mut self, parts: Parts, rule: u8)
+        ensures parts { Holds self.new.parts (λ p. Has self.old.parts p ⊎ Has parts p) }
+        ensures noted { Noted parts rule self.old.lowest self.new.lowest }
+    {
+        self.parts = self.parts.union(parts);
+        for part in parts {
+            self.lowest[part as usize] = rule;
+        }
     }
 }
 
@@ -42,34 +56,35 @@ impl Derivation {
         requires new { Has self.old.reached entry.part → ⊥ }
         ensures { Added entry self.old self.new }
     {
-        let _ = self.entries.push(entry);
         self.reached = self.reached.with(entry.part);
+        self.entries.push(entry).unwrap();
     }
 
     // Puts the entries of the parts of one round last.
-    fn extend(&mut self, new: Parts, round: u8, lowest: &[u8; PARTS])
-        requires { Apart new self.old.reached }
-        ensures { Extended new round lowest.now self.old self.new }
+    fn extend(&mut self, round: u8, layer: &Layer)
+        requires { Apart layer.now.parts self.old.reached }
+        ensures { Extended layer.now.parts round layer.now.lowest self.old self.new }
     {
-        for part in new {
-            let rule = lowest[part as usize];
+        for part in layer.parts {
+            let rule = layer.lowest[part as usize];
             self.add(Entry { part, round, rule });
         }
     }
 }
 
 impl Case {
-    // The parts of the round after those of `below`, with the lowest rule for each.
-    fn next_round(&self, below: Parts, lowest: &mut [u8; PARTS]) -> Parts
-        ensures { Next (held self.now.rules) self.now.outfit below result lowest.new }
+    // The round after those whose parts are in `below`.
+    fn next_round(&self, below: Parts) -> Layer
+        ensures { Next (held self.now.rules) self.now.outfit below result.parts result.lowest }
     {
-        let mut new = Parts::none();
+        let mut layer = Layer::none();
         for (i, rule) in self.rules.items().iter().enumerate() {
-            let fresh = rule.given(self.outfit, below).minus(below.union(new));
-            note(fresh, i as u8, lowest);
-            new = new.union(fresh);
+            let fresh = rule
+                .given(self.outfit, below)
+                .minus(below.union(layer.parts));
+            layer.note(fresh, i as u8);
         }
-        new
+        layer
     }
 
     // Round after round, until the whole outfit is derived or a round brings nothing. There are no more rounds than parts.
@@ -77,16 +92,15 @@ impl Case {
         ensures { Derived (held self.now.rules) self.now.outfit result }
     {
         let mut done = Derivation::none();
-        let mut lowest = [0; PARTS];
         for round in 1..=PARTS as u8 {
             if self.outfit.within(done.reached) {
                 return done;
             }
-            let new = self.next_round(done.reached, &mut lowest);
-            if new.is_none() {
+            let layer = self.next_round(done.reached);
+            if layer.parts.is_none() {
                 return done;
             }
-            done.extend(new, round, &lowest);
+            done.extend(round, &layer);
         }
         done
     }

@@ -14,6 +14,7 @@ impl Derivation {
         ensures buffer { buffer.new ≡ fronted (bytes (held self.now.entries)) buffer.old }
     {
         let entries = self.entries.items();
+        // By index: where the buffer is lent as chunks, nothing is known of what it holds afterwards (tried, and no proof closes).
         for (i, entry) in entries.iter().enumerate() {
             buffer[3 * i] = entry.part;
             buffer[3 * i + 1] = entry.round;

@@ -8,6 +8,8 @@ use refusals::Refusal;
 use sets::parts::{Bits, Parts};
 
 impl Rule {
+    // The four that go together here are what a rule is made of: a struct of them would be the rule.
+
     /// The rule of a kind and three sets.
     pub fn of(kind: Kind, heads: Parts, needs: Parts, absences: Parts) -> Result<Rule, Refusal>
         ensures { Made (number_of kind) heads needs absences result }

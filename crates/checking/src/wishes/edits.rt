@@ -9,15 +9,13 @@ ghost use Rattle.checking.specs.Enquiries.{wish_of, Joined, Rewished};
 use crate::call::Step;
 use crate::wishes::Wishes;
 use refusals::Refusal;
-use sets::parts::{PARTS, Parts};
+use sets::parts::{Part, Parts};
 
-// One set of wishes with a part more: refused where there is no such part, and then where the other set has it.
-fn joined(set: Parts, other: Parts, part: u8) -> Result<Parts, Refusal>
-    ensures { Joined set other part result }
+// One set of wishes with a part more: refused where the other set has it.
+fn joined(set: Parts, other: Parts, part: Part) -> Result<Parts, Refusal>
+    ensures { Joined set other part.number result }
 {
-    if part as usize >= PARTS {
-        return Err(Refusal::NoPart { part });
-    }
+    let part = u8::from(part);
     if other.has(part) {
         return Err(Refusal::Clash { part });
     }
@@ -50,23 +48,21 @@ impl Wishes {
     pub(crate) fn want(&mut self, part: u8) -> Result<(), Refusal>
         ensures { Rewished (Step.Want part) self.old self.new result }
     {
-        self.wanted = joined(self.wanted, self.barred, part)?;
+        self.wanted = joined(self.wanted, self.barred, Part::try_from(part)?)?;
         Ok(())
     }
 
     pub(crate) fn bar(&mut self, part: u8) -> Result<(), Refusal>
         ensures { Rewished (Step.Bar part) self.old self.new result }
     {
-        self.barred = joined(self.barred, self.wanted, part)?;
+        self.barred = joined(self.barred, self.wanted, Part::try_from(part)?)?;
         Ok(())
     }
 
     pub(crate) fn release(&mut self, part: u8) -> Result<(), Refusal>
         ensures { Rewished (Step.Release part) self.old self.new result }
     {
-        if part as usize >= PARTS {
-            return Err(Refusal::NoPart { part });
-        }
+        let part = u8::from(Part::try_from(part)?);
         self.wanted = self.wanted.without(part);
         self.barred = self.barred.without(part);
         Ok(())

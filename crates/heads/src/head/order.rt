@@ -6,7 +6,7 @@ ghost use Rattle.heads.specs.Orders.{zero_head, at_most, larger as larger_of, Or
 use crate::head::{Head, LARGEST};
 
 impl Head {
-    // As std names it of `f32`: `Head::try_from(2)` could be read as 2 metres.
+    // By names and not by `TryFrom` and `From`: `Head::try_from(2)` could be read as 2 metres, and `f32::from(head)` would not name the unit.
 
     /// The head of a bit pattern, where it is one.
     pub fn from_pattern(pattern: u32) -> Option<Head>
@@ -33,6 +33,8 @@ impl Head {
     {
         Head { metres: 0.0 }
     }
+
+    // The derived order, with its laws; and the larger by it, which is the other where they are equal: no derive promises that.
 
     /// Whether it is at most the other.
     pub fn at_most(self, other: Head) -> bool

@@ -1,7 +1,0 @@
-use Rattle.std.proofs.Common.{◌≡◌, length}
-use Rattle.sets.specs.Width.{how_many}
-use Rattle.checking.proofs.Noting.{Noting}
-use Rattle.checking.proofs.justification.rounds.note.Given as goal
-
-abbrev pub invariant-loop-part : goal.invariant-loop-part
-invariant-loop-part l = Noting l.fn.parts l.part-iterator.rest l.rule l.initial.lowest l.lowest × (length l.lowest ≡ how_many)
