@@ -5,7 +5,7 @@ use Rattle.std.proofs.lemmas.List.{take_more, drop_more, set_at, length_push, le
 use Rattle.checking.specs.declared.justification.Entry.{Entry}
 use Rattle.checking.specs.Justification.{bytes, fronted}
 
-length_bytes : (es : List Entry) → length (bytes es) ≡ 3 * length es
+pub length_bytes : (es : List Entry) → length (bytes es) ≡ 3 * length es
 length_bytes [] = refl
 length_bytes (e ∷ es) = let h = length_bytes es in omega arith
 

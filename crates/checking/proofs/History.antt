@@ -1,5 +1,5 @@
 -- Wishes by the calls that made them, and the laws of lists of calls. Assumes nothing.
-use Rattle.std.proofs.Common.{◌≡◌, ℕ, zero, suc, ◌≤◌, ◌⊎◌, ◌↔◌, List, [], ◌∷◌, ◌++◌, length, Some, None, fold, ap, ◌∙◌, inl, inr, refl, arith}
+use Rattle.std.proofs.Common.{◌≡◌, ℕ, zero, suc, ◌≤◌, ◌⊎◌, ◌↔◌, Bool, true, false, cond, List, [], ◌∷◌, ◌++◌, length, Option, Some, None, fold, sym, ap, ◌∙◌, inl, inr, refl, arith}
 use Rattle.std.specs.List.{slice_get}
 use Rattle.std.proofs.lemmas.Bool.Decides.{nat_tests}
 use Rattle.std.proofs.lemmas.Grind.{common_steps}
@@ -7,12 +7,29 @@ use Rattle.std.proofs.lemmas.List.Sums.{fold-append}
 use Rattle.std.proofs.lemmas.Option.{none-some}
 use Rattle.sets.specs.Width.{how_many}
 use Rattle.lists.proofs.Less.{moved_down}
+use Rattle.refusals.specs.Refusals.{Code}
 use Rattle.checking.specs.declared.call.Call.{Call}
 use Rattle.checking.specs.declared.call.Call.TheVariants.{Make}
 use Rattle.checking.specs.declared.call.Step.{Step}
 use Rattle.checking.specs.declared.call.Step.TheVariants.{Want, Bar, Release}
+use Rattle.checking.specs.declared.rule.Rule.{Rule}
 use Rattle.checking.specs.Sizes.{most_own}
-use Rattle.checking.specs.Calls.{Wish, free, wanted, barred, State, start, refusal, called, after, Since, CallLaws}
+use Rattle.checking.specs.Calls.{Wish, free, wanted, barred, State, start, refusal, wished, called, after, Since, CallLaws}
+
+-- a test that was passed, since there is no refusal
+pub passed : (b : Bool) (other : Option Code) (code : Code) → cond b other (Some code) ≡ None → b ≡ true
+passed true other code e = refl
+passed false other code e = absurd (none-some code (sym e))
+
+-- the wish that was put, and put again
+pub here : (part : ℕ) (w : Wish) (old : ℕ → Wish) → wished part w old part ≡ w
+here part w old = grind (arith, nat_tests)
+
+pub same_wish : (part : ℕ) (w : Wish) (own : List Rule) (old : ℕ → Wish) → ◌≡◌ {A = State} (record { own = own; wish = wished part w (wished part w old) }) (record { own = own; wish = wished part w old })
+same_wish part w own old = λ i. record { own = own; wish = λ p. each p i }
+  where
+    each : (p : ℕ) → wished part w (wished part w old) p ≡ wished part w old p
+    each p = grind (arith, nat_tests)
 
 -- what every call keeps, every list of calls keeps
 kept : (P : State → Type 0) → ((s : State) (c : Call) → P s → P (called s c)) → (s : State) (cs : List Call) → P s → P (fold called s cs)
@@ -46,7 +63,7 @@ module _ (p : ℕ) (w : Wish) (mine : Step) (some : free ≡ w → ⊥)
   forward s (c ∷ cs) h u = forward (called s c) cs (stays s c (λ e. u 0 (ap Some e)) h) (λ i. u (suc i))
 
   -- so it was from the start, or a step of the list that was done made it; and p was not released since
-  data Back (s : State) (cs : List Call) : Type 0 where
+  pub data Back (s : State) (cs : List Call) : Type 0 where
     always : s.wish p ≡ w → Unreleased p cs → Back s cs
     made_at : (xs ys : List Call) → cs ≡ xs ++ Make mine ∷ ys → refusal (fold called s xs) mine ≡ None → Unreleased p ys → Back s cs
 
@@ -62,7 +79,7 @@ module _ (p : ℕ) (w : Wish) (mine : Step) (some : free ≡ w → ⊥)
   backward s [] k h = always h (λ i e. none-some _ e)
   backward s (c ∷ cs) k h = further s c cs k (backward (called s c) cs (λ l. known p l s c (k l)) h)
 
-  since : (cs : List Call) → ((after cs).wish p ≡ w) ↔ Since mine p cs
+  pub since : (cs : List Call) → ((after cs).wish p ≡ w) ↔ Since mine p cs
   since cs = (λ h. to (backward start cs (λ l. refl) h), from)
     where
       to : Back start cs → Since mine p cs

@@ -34,7 +34,7 @@ module _ (book : List Rule) (s : State) (c : Parts) (room : ℕ) where
   one_objection x y (by_wishes p u) (by_rules g) = absurd (fault_invalid (rules_in_force book s) c room y g p)
   one_objection x y (by_wishes p u) (by_wishes q v) = one_unmet s.wish c x y u v
 
-one_check : OneCheck
+pub one_check : OneCheck
 one_check book s c old = one_answer _ _ _ (objection_fails book s c (length old)) old (one_written (rules_in_force book s) c old) (one_objection book s c (length old))
 
 -- all that a check promises

@@ -1,13 +1,14 @@
 -- Rounds and the least model of the reduct. Assumes nothing.
-use Rattle.std.proofs.Common.{ℕ, zero, suc, ◌<◌, ◌≤◌, max, List, refl, inl, inr, arith}
+use Rattle.std.proofs.Common.{◌≡◌, ℕ, zero, suc, ◌<◌, ◌≤◌, max, List, refl, inl, inr, arith}
 use native.Mathlib.Decide.{le_ind}
+use Rattle.std.proofs.lemmas.Bool.{cases_order}
 use Rattle.sets.specs.declared.parts.Parts.{Parts}
 use Rattle.sets.specs.Width.{how_many}
 use Rattle.sets.specs.Members.{Has, Holds}
 use Rattle.sets.proofs.Told.{Told, told_has, known}
 use Rattle.checking.specs.declared.rule.Rule.{Rule}
 use Rattle.checking.specs.Validity.{Reduct, Closed, LeastModel}
-use Rattle.checking.specs.Rounds.{Brings, Follows, By, Justified}
+use Rattle.checking.specs.Rounds.{Brings, Follows, By, Round, Justified}
 
 module _ (rules : List Rule) (c : Parts) where
   pub brings_more : {S S' : ℕ → Type 0} → ((q : ℕ) → S q → S' q) → (p i : ℕ) → Brings rules c S p i → Brings rules c S' p i
@@ -17,10 +18,10 @@ module _ (rules : List Rule) (c : Parts) where
   follows_more f p h = (h.0, brings_more f p h.0 h.1)
 
   -- a set is closed under the clauses of the reduct when it has what follows from it
-  closed_follows : (m : Parts) → Closed (Reduct rules c) m → (p : ℕ) → Follows rules c (Has m) p → Has m p
+  pub closed_follows : (m : Parts) → Closed (Reduct rules c) m → (p : ℕ) → Follows rules c (Has m) p → Has m p
   closed_follows m h p f = h (record { needs = f.1.0.needs; head = p }) (f.0, f.1.0, f.1.1, f.1.2, refl) f.1.3
 
-  follows_closed : (m : Parts) → ((p : ℕ) → Follows rules c (Has m) p → Has m p) → Closed (Reduct rules c) m
+  pub follows_closed : (m : Parts) → ((p : ℕ) → Follows rules c (Has m) p → Has m p) → Closed (Reduct rules c) m
   follows_closed m h k t needs = h k.head (t.0, (t.1, t.2, t.3, λ q i. needs q (rw t.4 i)))
 
   -- a round of at most k is one of at most k + 1
@@ -46,6 +47,10 @@ module _ (rules : List Rule) (c : Parts) where
   -- a part that has a round is in the outfit
   pub in_outfit : (k p : ℕ) → By rules c k p → Has c p
   in_outfit = by_closed (Has c) (λ p f. f.1.2.1.1)
+
+  -- no part has two rounds
+  pub one_round : (j k p : ℕ) → Round rules c j p → Round rules c k p → j ≡ k
+  one_round j k p a b = grind (arith, cases_order j k, a, b)
 
   -- if each part of a set has a round, one number bounds them all
   below : (s : Parts) → ((q : ℕ) → Has s q → (k : ℕ) × By rules c k q) → (w : ℕ) → (k : ℕ) × ((q : ℕ) → q < w → Has s q → By rules c k q)

@@ -22,7 +22,7 @@ use Rattle.checking.proofs.Faults.{fault_invalid}
 before_asym : (a b : Entry) → Before a b → Before b a → ⊥
 before_asym a b x y = grind arith
 
-one_lowest : (P : ℕ → Type 0) (p q : ℕ) → Lowest P p → Lowest P q → p ≡ q
+pub one_lowest : (P : ℕ → Type 0) (p q : ℕ) → Lowest P p → Lowest P q → p ≡ q
 one_lowest P p q a b = grind arith
 
 one_blame : (r : Rule) (c : Parts) (i : ℕ) (x y : Code) → Blame r c i x → Blame r c i y → x ≡ y
@@ -54,7 +54,7 @@ module _ (rules : List Rule) (c : Parts) where
       let rule = one_lowest (Brings rules c (Lower rules c b.round) b.part) a.rule b.rule (rw (← round, ← same) x.by_rule) y.by_rule in
       grind arith
 
-  one_justification : (es fs : List Entry) → Justification rules c es → Justification rules c fs → es ≡ fs
+  pub one_justification : (es fs : List Entry) → Justification rules c es → Justification rules c fs → es ≡ fs
   one_justification es fs x y = one_list Before before_asym es fs x.sorted y.sorted (sub es fs x y) (sub fs es y x)
     where
       sub : (es fs : List Entry) → Justification rules c es → Justification rules c fs → (e : Entry) → (i : ℕ) × (slice_get es i ≡ Some e) → (i : ℕ) × (slice_get fs i ≡ Some e)
@@ -77,7 +77,7 @@ module _ (rules : List Rule) (c : Parts) where
   pub one_written : (old : List ℕ) (m n : ℕ) (new other : List ℕ) → Written rules c m old new → Written rules c n old other → (m ≡ n) × (new ≡ other)
   one_written old m n new other a b = let same = one_justification a.entries b.entries a.is b.is in grind arith
 
-  one_verdict : (old new other : List ℕ) (r s : Result ℕ Refusal) → Verdict rules c old new r → Verdict rules c old other s → (r ≡ s) × (new ≡ other)
+  pub one_verdict : (old new other : List ℕ) (r s : Result ℕ Refusal) → Verdict rules c old new r → Verdict rules c old other s → (r ≡ s) × (new ≡ other)
   one_verdict old = one_answer _ _ _ (fault_invalid rules c (length old)) old (one_written old) (one_fault (length old))
 
 pub laws : Laws

@@ -36,10 +36,10 @@ impl Rule {
     }
 }
 
-impl Case {
+impl Case<'_> {
     // Whether all rules are kept, and if not, what is wrong with the lowest-numbered that is not.
-    fn keeps(&self) -> Result<(), Refusal>
-        ensures { MatchResult result (λ _. Keeps (held self.now.rules) self.now.outfit) (λ e. (room : ℕ) → least_room ≤ room → Fault (held self.now.rules) self.now.outfit room (numbered e)) }
+    fn keeps(self) -> Result<(), Refusal>
+        ensures { MatchResult result (λ _. Keeps (held self.entry.rules.now) self.entry.outfit) (λ e. (room : ℕ) → least_room ≤ room → Fault (held self.entry.rules.now) self.entry.outfit room (numbered e)) }
     {
         for (i, rule) in self.rules.items().iter().enumerate() {
             if !rule.kept(self.outfit) {
@@ -50,8 +50,8 @@ impl Case {
     }
 
     // What is wrong with the outfit, or how it is derived.
-    pub(crate) fn examine(&self, room: usize) -> Result<Derivation, Refusal>
-        ensures { MatchResult result (λ d. Passed (held self.now.rules) self.now.outfit room d) (λ e. Fault (held self.now.rules) self.now.outfit room (numbered e)) }
+    pub(crate) fn examine(self, room: usize) -> Result<Derivation, Refusal>
+        ensures { MatchResult result (λ d. Passed (held self.entry.rules.now) self.entry.outfit room d) (λ e. Fault (held self.entry.rules.now) self.entry.outfit room (numbered e)) }
     {
         if room < ROOM {
             return Err(Refusal::ShortBuffer);
@@ -76,8 +76,9 @@ pub fn judge<B: Book>(book: &B, outfit: Bits, buffer: &mut [u8]) -> Result<usize
     ensures rounds { Decides (is_ok result) (PassingByRounds (B.meaning book.now).rules (set_of outfit) (length buffer.old)) }
     ensures laws { Laws }
 {
+    let rules = in_force(book);
     let case = Case {
-        rules: in_force(book),
+        rules: &rules,
         outfit: Parts::from_bits(outfit),
     };
     let derivation = case.examine(buffer.len())?;

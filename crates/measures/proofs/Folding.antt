@@ -18,7 +18,7 @@ module _ {V : Type 0} (s : Scale V) (outfit : Parts) where
   pub value_folded : value s outfit ≡ fold s.extend s.start (in_order outfit)
   value_folded = below_folded how_many
 
-  below_alike : (t : Scale V) → SameScale s t → (n : ℕ) → value_below s outfit n ≡ value_below t outfit n
+  pub below_alike : (t : Scale V) → SameScale s t → (n : ℕ) → value_below s outfit n ≡ value_below t outfit n
   unfolding value_below
   below_alike t same zero = same.start
   below_alike t same (suc n) = grind (arith, nat_tests, below_alike t same n, same.extend (value_below s outfit n) n)

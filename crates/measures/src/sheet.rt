@@ -15,6 +15,17 @@ pub struct Sheet<C> {
     ghost room: { length cards ≡ how_many },
 }
 
+impl<C: Copy> Sheet<C> {
+    ghost use Rattle.measures.specs.Writing.{on};
+
+    /// The card of a part, or none where there is no such part: of cards of any type.
+    pub fn at(&self, part: u8) -> Option<C>
+        ensures { result ≡ on self.now part }
+    {
+        self.cards.get(part as usize).copied()
+    }
+}
+
 impl<C: Card> Sheet<C> {
     ghost use Rattle.measures.specs.Writing.{Everywhere, SetCard, shown_on};
 
@@ -40,7 +51,7 @@ impl<C: Card> Sheet<C> {
     pub fn card(&self, part: u8) -> Option<C::Value>
         ensures { result ≡ shown_on C.shown self.now part }
     {
-        self.cards.get(part as usize).map(|card| card.value())
+        self.at(part).map(|card| card.value())
     }
 }
 

@@ -14,6 +14,8 @@ pub(crate) const MOST_IN_FORCE: usize = MOST_RULES + MOST_OWN;
 pub(crate) type InForce = Held<Rule, MOST_IN_FORCE>;
 
 // Walks the book, place by place, until it answers none or has given all rules that a book may have: it is known by that question alone.
+// There is room for each rule, which is proved, so it never ends for want of it. `unwrap` would put a stop of the program there, and a list with
+// such a stop is not filled where it is wanted but copied there, 8 KiB at each check.
 pub(crate) fn append<B: Book>(book: &B, rules: &mut InForce)
     requires { length (held rules.old) + length (B.meaning book.now).rules ≤ most_in_force }
     ensures { held rules.new ≡ held rules.old ++ (B.meaning book.now).rules }
@@ -22,7 +24,9 @@ pub(crate) fn append<B: Book>(book: &B, rules: &mut InForce)
         let Some(rule) = book.rule(place) else {
             return;
         };
-        rules.push(rule).unwrap();
+        if rules.push(rule).is_err() {
+            return;
+        }
     }
 }
 

@@ -72,10 +72,10 @@ impl Derivation {
     }
 }
 
-impl Case {
+impl Case<'_> {
     // The round after those whose parts are in `below`.
-    fn next_round(&self, below: Parts) -> Layer
-        ensures { Next (held self.now.rules) self.now.outfit below result.parts result.lowest }
+    fn next_round(self, below: Parts) -> Layer
+        ensures { Next (held self.entry.rules.now) self.entry.outfit below result.parts result.lowest }
     {
         let mut layer = Layer::none();
         for (i, rule) in self.rules.items().iter().enumerate() {
@@ -88,8 +88,8 @@ impl Case {
     }
 
     // Round after round, until the whole outfit is derived or a round brings nothing. There are no more rounds than parts.
-    pub(crate) fn derive(&self) -> Derivation
-        ensures { Derived (held self.now.rules) self.now.outfit result }
+    pub(crate) fn derive(self) -> Derivation
+        ensures { Derived (held self.entry.rules.now) self.entry.outfit result }
     {
         let mut done = Derivation::none();
         for round in 1..=PARTS as u8 {

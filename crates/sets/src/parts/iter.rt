@@ -21,7 +21,7 @@ impl Iterator for IntoIter {
 
     fn next(&mut self) -> Option<u8> {
         let part = self.rest.lowest()?;
-        self.rest = self.rest.without(part);
+        self.rest = self.rest.less_lowest();
         Some(part)
     }
 }

@@ -60,6 +60,16 @@ impl Parts {
         self.minus(Parts::none().with(part))
     }
 
+    // Without its lowest part: a number less one lacks the lowest digit 1 of the number. Faster than `without` where a set is gone through.
+    pub(super) fn less_lowest(self) -> Parts
+        requires { (p : ℕ) × Has self p }
+        ensures { Holds result (λ q. Has self q × (Lowest (Has self) q → ⊥)) }
+    {
+        Parts {
+            bits: self.bits & (self.bits - 1),
+        }
+    }
+
     // Three operators with three promises: a function over the operator would have to be told it, and to promise by it.
 
     /// The parts of either.

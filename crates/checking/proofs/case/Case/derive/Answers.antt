@@ -27,4 +27,4 @@ loop-round-preserved c =
 pub returns : goal.returns
 returns c =
     let i = c.loop-round.invariant in
-    derived_all _ _ i.2 (λ p h. full c.loop-round.done.reached (omega (arith, i.1, i.2.many)) p (known c.args.self.now.outfit p h))
+    derived_all _ _ i.2 (λ p h. full c.loop-round.done.reached (omega (arith, i.1, i.2.many)) p (known c.args.self.outfit p h))

@@ -4,4 +4,4 @@ use Rattle.checking.proofs.Turns.{Turned}
 use Rattle.checking.proofs.case.Case.derive.Given as goal
 
 abbrev pub invariant-loop-round : goal.invariant-loop-round
-invariant-loop-round l = (k : ℕ) × (l.round ≡ suc k) × Turned (held l.self.rules) l.self.outfit k l.done
+invariant-loop-round l = (k : ℕ) × (l.round ≡ suc k) × Turned (held l.self.rules.now) l.self.outfit k l.done

@@ -6,4 +6,4 @@ use Rattle.checking.specs.Validity.{Kept}
 use Rattle.checking.proofs.case.Case.keeps.Given as goal
 
 abbrev pub invariant-loop-i : goal.invariant-loop-i
-invariant-loop-i l = (j : ℕ) (s : Rule) → j < l.i → slice_get (held l.self.rules) j ≡ Some s → Kept s l.self.outfit
+invariant-loop-i l = (j : ℕ) (s : Rule) → j < l.i → slice_get (held l.self.rules.now) j ≡ Some s → Kept s l.self.outfit
